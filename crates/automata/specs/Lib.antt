@@ -1,0 +1,10 @@
+pub mod Trees
+pub mod Automata
+pub mod Runs
+pub mod Contexts
+pub mod Pushing
+pub mod Merging
+pub mod Equivalence
+pub mod Marking
+pub mod Minimality
+pub mod Comparing
