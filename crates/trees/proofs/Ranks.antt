@@ -1,0 +1,50 @@
+-- Reading the ranks of an alphabet out of its array.
+use mathlib.Core.Path.{_≡_, sym, ap, _∙_, subst}
+use mathlib.Core.Logic.{⊎-elim}
+use mathlib.Core.List.{List, [], _∷_}
+use Prim.Native.Nat.{ℕ, _≤_, _<_}
+use native.Mathlib.Omega.{arith}
+use lib.ListN.{length, take, getD, set, replicate}
+use Rattle.std.specs.shelf.Maps.{nth}
+use Rattle.std.specs.declared.option.Option.the-variants.{Some, None}
+use Rattle.std.proofs.shelf.Lists.{getD-take, getD-replicate, getD-past, getD-set-same, getD-set-other, set-past, length-take-le, length-replicate}
+use Rattle.std.proofs.shelf.Maps.{nth-getD, nth-past}
+use Rattle.std.proofs.shelf.Tests.{cases-lt, cases-eq}
+
+pub zeros-small : (n k : ℕ) → getD (replicate n 0) k 0 ≤ 4
+zeros-small n k =
+    ⊎-elim (λ h. let e : getD (replicate n 0) k 0 ≡ 0 = getD-replicate {A = ℕ} n k 0 0 h in omega arith)
+    (λ h. let l : length (replicate {A = ℕ} n 0) ≤ k = rw (length-replicate {A = ℕ} n 0) h in
+    let e : getD (replicate n 0) k 0 ≡ 0 = getD-past {X = ℕ} (replicate n 0) k 0 l in omega arith) (cases-lt k n)
+
+-- the n first elements: what stands at i, and nothing past them
+pub nth-take : {X : Type 0} (n : ℕ) (xs : List X) (i : ℕ) (d : X) → n ≤ length xs → i < n → Some (getD xs i d) ≡ nth (take n xs) i
+nth-take n xs i d h k =
+    let l : i < length (take n xs) = rw (length-take-le n xs h) k in
+    ap Some (sym (getD-take n xs i d k)) ∙ sym (nth-getD (take n xs) i d l)
+
+pub nth-take-past : {X : Type 0} (n : ℕ) (xs : List X) (i : ℕ) → n ≤ length xs → n ≤ i → None ≡ nth (take n xs) i
+nth-take-past n xs i h k =
+    let l : length (take n xs) ≤ i = rw (length-take-le n xs h) k in
+    sym (nth-past (take n xs) i l)
+
+-- an element that is there, and one that is not
+pub nth-some : {X : Type 0} (xs : List X) (i : ℕ) (x d : X) → nth xs i ≡ Some x → (i < length xs) × (getD xs i d ≡ x)
+nth-some xs i x d e =
+    ⊎-elim (λ l. let f : nth xs i ≡ Some (getD xs i d) = nth-getD xs i d l in (l, cc))
+    (λ l. let f : nth xs i ≡ None = nth-past xs i l in let z : _≡_ {A = ℕ} 0 1 = cc in absurd (omega arith)) (cases-lt i (length xs))
+
+pub nth-none : {X : Type 0} (xs : List X) (i : ℕ) → nth xs i ≡ None → i < length xs → ⊥
+nth-none [] i e l = omega arith
+nth-none (x ∷ xs) i e l =
+    let f : nth (x ∷ xs) i ≡ Some (getD (x ∷ xs) i x) = nth-getD (x ∷ xs) i x l in
+    let z : _≡_ {A = ℕ} 0 1 = cc in omega arith
+
+-- a write keeps what holds at every place
+pub set-small : (xs : List ℕ) (i v : ℕ) → v ≤ 4 → ((k : ℕ) → getD xs k 0 ≤ 4) → (k : ℕ) → getD (set xs i v) k 0 ≤ 4
+set-small xs i v h all k =
+    ⊎-elim
+    (λ e. ⊎-elim
+      (λ l. let g : getD (set xs i v) k 0 ≡ v = ap (λ n. getD (set xs i v) n 0) e ∙ getD-set-same xs i v 0 l in rw g h)
+      (λ l. rw (set-past xs i v l) (all k)) (cases-lt i (length xs)))
+    (λ n. let g : getD (set xs i v) k 0 ≡ getD xs k 0 = getD-set-other xs i k v 0 n in rw g (all k)) (cases-eq k i)
