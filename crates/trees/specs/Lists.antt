@@ -5,11 +5,11 @@ use mathlib.Core.List.{List, [], _∷_, _++_}
 use Prim.Native.Nat.{ℕ, _-_, _≤_, _<_}
 use lib.ListN.{length, take, getD}
 use Rattle.std.specs.declared.result.Result.{Result}
-use Rattle.std.specs.declared.result.Result.the-variants.{Ok, Err}
 use Rattle.automata.specs.Trees.{Tree, Row, node, none, _▹_, rank}
 use Rattle.trees.specs.declared.node.Node.{Node}
 use Rattle.trees.specs.declared.refusal.Refusal.{Refusal}
 use Rattle.trees.specs.declared.refusal.Refusal.the-variants.{TreeList}
+use Rattle.trees.specs.Refusals.{Test, Answers}
 
 -- what stands past the end of a list
 abbrev pub blank : Node
@@ -47,10 +47,13 @@ pub record FirstBad (ranks : List ℕ) (ns : List Node) (i : ℕ) : Type 0 where
 abbrev pub WrongLength : List Node → Type 0
 WrongLength ns = (length ns ≡ 0) ⊎ (8192 < length ns)
 
+-- not a tree list; the refusal names the entry
+abbrev pub bad-list : List ℕ → List Node → Test
+bad-list ranks ns e = (WrongLength ns × (e ≡ TreeList 0)) ⊎ ((i : ℕ) × (e ≡ TreeList i) × FirstBad ranks ns i)
+
 -- what the test of a tree list answers
 abbrev pub Tested : List ℕ → List Node → Result (Unit {0}) Refusal → Type 0
-Tested ranks ns (Ok _) = IsTreeList ranks ns
-Tested ranks ns (Err e) = (WrongLength ns × (e ≡ TreeList 0)) ⊎ ((i : ℕ) × (e ≡ TreeList i) × FirstBad ranks ns i)
+Tested ranks ns r = Answers (bad-list ranks ns ∷ []) (λ _. IsTreeList ranks ns) (Unit {0}) r
 
 -- the trees of the numbered entries among those that stand so far
 abbrev pub row-of : List Tree → List ℕ → Row

@@ -7,6 +7,7 @@ use borrow.Author.Count.{below-more}
 use lib.ListN.{length, take, getD, length-set}
 use Rattle.std.proofs.shelf.Lists.{take-more, take-more-set, take-all}
 use Rattle.trees.proofs.Ranks.{zeros-small, set-small}
+use Rattle.trees.proofs.Refusals.{ranks-fine}
 use Rattle.trees.proofs.alphabet.Alphabet.new.Needs as need
 
 pub loop-i-holds : need.loop-i-holds
@@ -24,4 +25,4 @@ pub returns : need.returns
 returns c =
     let end : c .loop-i .i ≡ length (c .args .ranks .now) = omega arith in
     let prefix : take (length (c .args .ranks .now)) (c .loop-i .table) ≡ take (length (c .args .ranks .now)) (c .args .ranks .now) = rw end at (c .loop-i .inv .3) in
-    (record { some = omega arith; few = omega arith; small = λ k h. c .loop-i .inv .2 k (omega arith) }, prefix ∙ take-all (length (c .args .ranks .now)) (c .args .ranks .now) (omega arith))
+    (((λ x m. ranks-fine (c .args .ranks .now) (omega arith) (omega arith) (λ k h. c .loop-i .inv .2 k (omega arith)) (m .0)), tt), prefix ∙ take-all (length (c .args .ranks .now)) (c .args .ranks .now) (omega arith))
