@@ -1,3 +1,11 @@
 pub mod Groups
 pub mod Finds
 pub mod Plugs
+pub mod Steps
+pub mod Lives
+pub mod Pushes
+pub mod Drops
+pub mod Trims
+pub mod Firsts
+pub mod Swaps
+pub mod Merges
