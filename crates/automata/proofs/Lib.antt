@@ -9,3 +9,8 @@ pub mod Trims
 pub mod Firsts
 pub mod Swaps
 pub mod Merges
+pub mod Signs
+pub mod Pigeons
+pub mod Bounds
+pub mod Witnesses
+pub mod Explores

@@ -8,7 +8,7 @@ use lib.ListN.{length}
 use Rattle.std.specs.declared.option.Option.the-variants.{Some}
 use Rattle.kinds.specs.Weights.{Weights}
 use Rattle.automata.specs.Trees.{Tree, Row, node, size, rank, Over, Overs}
-use Rattle.automata.specs.Automata.{Transition, Automaton, find, Sound}
+use Rattle.automata.specs.Automata.{Transition, Automaton, find}
 use Rattle.automata.specs.Runs.{At, Ats, run, runs, weight-of, Alike}
 use Rattle.automata.specs.Contexts.{Context, plug, Live, Sign}
 
@@ -46,7 +46,7 @@ pub record Explored {W : Type 0} (K : Weights W) (A B : Automaton W) (E : Explor
   pub agree-one : (p q : ℕ) → E .found p q ≡ true → A .accepting p ≡ true → E .ratio p q ≡ K .one
 
 abbrev pub Same-by-exploring : {W : Type 0} → Weights W → Type 0
-Same-by-exploring {W} K = (A B : Automaton W) (E : Exploration W) → Sound A → Sound B → A .ranks ≡ B .ranks → Explored K A B E → Alike K A B
+Same-by-exploring {W} K = (A B : Automaton W) (E : Exploration W) → A .ranks ≡ B .ranks → Explored K A B E → Alike K A B
 
 -- a tree over the alphabet that the two weigh differently
 pub record Witness {W : Type 0} (K : Weights W) (A B : Automaton W) (t : Tree) : Type 0 where
@@ -62,3 +62,7 @@ pub record Failing {W : Type 0} (K : Weights W) (A B : Automaton W) : Type 0 whe
   -- a pair of which one accepts and the other does not, or that accepts with two weights
   pub unlike : (t : Tree) (a b : At W) → Over (A .ranks) t → run K A t ≡ Some a → run K B t ≡ Some b → (A .accepting (a .state) ≡ B .accepting (b .state) → ⊥) → Witness K A B t
   pub unequal : (t : Tree) (a b : At W) → Over (A .ranks) t → run K A t ≡ Some a → run K B t ≡ Some b → A .accepting (a .state) ≡ true → B .accepting (b .state) ≡ true → (a .weight ≡ b .weight → ⊥) → Witness K A B t
+
+-- over one alphabet
+abbrev pub Failing-witnessed : {W : Type 0} → Weights W → Type 0
+Failing-witnessed {W} K = (A B : Automaton W) → A .ranks ≡ B .ranks → Failing K A B

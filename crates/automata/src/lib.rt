@@ -3,28 +3,41 @@ ghost use Prim.Native.Nat.{ℕ};
 ghost use Rattle.automata.specs.Automata.{Automaton, Sound};
 ghost use Rattle.automata.specs.Pushing.{Plugging, Pushing};
 ghost use Rattle.automata.specs.Merging.{Trimming, Grouping, Admissible, Merging};
+ghost use Rattle.automata.specs.Minimality.{Lower-bound};
+ghost use Rattle.automata.specs.Comparing.{Failing-witnessed, Same-by-exploring};
 use kinds::Kind;
 
 // A tree in a context weighs its run weight times what its state gives there.
 pub fn plugging_stands<W: Kind>()
     ensures { λ _. ⌜ Plugging (W·Kind .weights) ⌝ }
-{
-}
+{}
 
 // A push moves no tree's weight if the factors of accepting states are one.
 pub fn pushing_stands<W: Kind>()
     ensures { λ _. ⌜ ((A : Automaton W·Weight) (f : ℕ → W·Weight) → Pushing (W·Kind .weights) A f) ⌝ }
-{
-}
+{}
 
 // Without the states that are not live every tree weighs the same.
 pub fn trimming_stands<W: Kind>()
     ensures { λ _. ⌜ Trimming (W·Kind .weights) ⌝ }
-{
-}
+{}
 
 // An admissible merge gives an automaton that weighs alike.
 pub fn merging_stands<W: Kind>()
     ensures { λ _. ⌜ ((A : Automaton W·Weight) (G : Grouping W·Weight) → Sound A → Admissible (W·Kind .weights) A G → Merging (W·Kind .weights) A G) ⌝ }
-{
-}
+{}
+
+// An automaton whose states are live and pairwise not equivalent has no more states than any that weighs every tree alike.
+pub fn lower_bound_stands<W: Kind>()
+    ensures { λ _. ⌜ Lower-bound (W·Kind .weights) ⌝ }
+{}
+
+// Two automata over one alphabet with a complete exploration weigh every tree alike.
+pub fn same_by_exploring_stands<W: Kind>()
+    ensures { λ _. ⌜ Same-by-exploring (W·Kind .weights) ⌝ }
+{}
+
+// Where an exploration of two automata fails, a tree can be named that they weigh differently.
+pub fn failing_stands<W: Kind>()
+    ensures { λ _. ⌜ Failing-witnessed (W·Kind .weights) ⌝ }
+{}
