@@ -14,3 +14,8 @@ pub mod Pigeons
 pub mod Bounds
 pub mod Witnesses
 pub mod Explores
+pub mod Rows
+pub mod Equivalents
+pub mod Simulations
+pub mod Marks
+pub mod SecondMarks

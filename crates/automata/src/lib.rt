@@ -1,8 +1,11 @@
 // The mathematics of bottom-up deterministic weighted tree automata. A function here stands for a theorem: its contract states it.
+ghost use mathlib.Core.Bool.{Bool};
 ghost use Prim.Native.Nat.{ℕ};
 ghost use Rattle.automata.specs.Automata.{Automaton, Sound};
 ghost use Rattle.automata.specs.Pushing.{Plugging, Pushing};
 ghost use Rattle.automata.specs.Merging.{Trimming, Grouping, Admissible, Merging};
+ghost use Rattle.automata.specs.Equivalence.{Equivalences};
+ghost use Rattle.automata.specs.Marking.{Decides-live, True-marks, Chosen, First-round, Second-round};
 ghost use Rattle.automata.specs.Minimality.{Lower-bound};
 ghost use Rattle.automata.specs.Comparing.{Failing-witnessed, Same-by-exploring};
 use kinds::Kind;
@@ -25,6 +28,21 @@ pub fn trimming_stands<W: Kind>()
 // An admissible merge gives an automaton that weighs alike.
 pub fn merging_stands<W: Kind>()
     ensures { λ _. ⌜ ((A : Automaton W·Weight) (G : Grouping W·Weight) → Sound A → Admissible (W·Kind .weights) A G → Merging (W·Kind .weights) A G) ⌝ }
+{}
+
+// Equivalence of states up to a factor is an equivalence relation and a congruence.
+pub fn equivalence_stands<W: Kind>()
+    ensures { λ _. ⌜ ((A : Automaton W·Weight) → Sound A → Equivalences (W·Kind .weights) A) ⌝ }
+{}
+
+// Marking, round one: the marks are true, and live states that stay unmarked have the same signs of life.
+pub fn first_round_stands<W: Kind>()
+    ensures { λ _. ⌜ ((A : Automaton W·Weight) (live : ℕ → Bool) (marks : ℕ → ℕ → Bool) → Sound A → Decides-live (W·Kind .weights) A live → First-round (W·Kind .weights) A live marks) ⌝ }
+{}
+
+// Marking, round two: the marks are true, and live states that stay unmarked are equivalent by the quotient of their factors.
+pub fn second_round_stands<W: Kind>()
+    ensures { λ _. ⌜ ((A : Automaton W·Weight) (live : ℕ → Bool) (first : ℕ → ℕ → Bool) (f : ℕ → W·Weight) (marks : ℕ → ℕ → Bool) → Sound A → Decides-live (W·Kind .weights) A live → True-marks (W·Kind .weights) A first → Chosen (W·Kind .weights) A live first f → Second-round (W·Kind .weights) A live f marks) ⌝ }
 {}
 
 // An automaton whose states are live and pairwise not equivalent has no more states than any that weighs every tree alike.
