@@ -1,2 +1,3 @@
 pub mod Lookup
 pub mod Measures
+pub mod Shapes

@@ -4,8 +4,10 @@ mod left_side;
 mod lookup;
 mod measure;
 mod rule;
+mod shape;
 
 pub use left_side::LeftSide;
 pub use lookup::find;
 pub use measure::Measure;
 pub use rule::Rule;
+pub use shape::Shape;

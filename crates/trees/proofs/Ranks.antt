@@ -11,11 +11,14 @@ use Rattle.std.proofs.shelf.Lists.{getD-take, getD-replicate, getD-past, getD-s
 use Rattle.std.proofs.shelf.Maps.{nth-getD, nth-past}
 use Rattle.std.proofs.shelf.Tests.{cases-lt, cases-eq}
 
+-- one value throughout, and past the end
+pub getD-constant : {X : Type 0} (n k : ℕ) (x : X) → getD (replicate n x) k x ≡ x
+getD-constant n k x =
+    ⊎-elim (getD-replicate n k x x)
+    (λ h. let l : length (replicate n x) ≤ k = rw (length-replicate n x) h in getD-past (replicate n x) k x l) (cases-lt k n)
+
 pub zeros-small : (n k : ℕ) → getD (replicate n 0) k 0 ≤ 4
-zeros-small n k =
-    ⊎-elim (λ h. let e : getD (replicate n 0) k 0 ≡ 0 = getD-replicate {A = ℕ} n k 0 0 h in omega arith)
-    (λ h. let l : length (replicate {A = ℕ} n 0) ≤ k = rw (length-replicate {A = ℕ} n 0) h in
-    let e : getD (replicate n 0) k 0 ≡ 0 = getD-past {X = ℕ} (replicate n 0) k 0 l in omega arith) (cases-lt k n)
+zeros-small n k = omega (arith, getD-constant {X = ℕ} n k 0)
 
 -- the n first elements: what stands at i, and nothing past them
 pub nth-take : {X : Type 0} (n : ℕ) (xs : List X) (i : ℕ) (d : X) → n ≤ length xs → i < n → Some (getD xs i d) ≡ nth (take n xs) i

@@ -1,14 +1,38 @@
--- What rules a refusal out: ranks within their bounds, and a tree list.
-use mathlib.Core.Path.{_≡_}
+-- Which refusal comes first, and what rules one out: ranks within their bounds, and a tree list.
+use mathlib.Core.Path.{_≡_, refl, sym}
+use mathlib.Core.Bool.{Bool, true, false, cond}
 use mathlib.Core.Logic.{_⊎_, inl, inr}
-use mathlib.Core.List.{List}
+use mathlib.Core.List.{List, [], _∷_}
 use Prim.Native.Nat.{ℕ, _≤_, _<_}
 use native.Mathlib.Omega.{arith}
 use lib.ListN.{length, getD}
+use Rattle.std.specs.declared.option.Option.{Option}
+use Rattle.std.specs.declared.option.Option.the-variants.{Some, None}
+use Rattle.std.proofs.shelf.Tests.{both-ways}
 use Rattle.trees.specs.declared.node.Node.{Node}
 use Rattle.trees.specs.declared.refusal.Refusal.{Refusal}
+use Rattle.trees.specs.Refusals.{Check, when, checks, first-met, FirstMet, NoneMet}
 use Rattle.trees.specs.Alphabets.{BadRanks}
 use Rattle.trees.specs.Lists.{IsTreeList, bad-list}
+
+unmet : (b : Bool) (x : Refusal) → b ≡ false → (e : Refusal) → when (b ≡ true) x e → ⊥
+unmet b x f e m = both-ways b f (m .0)
+
+pub refused-first : (cs : List Check) (e : Refusal) → first-met cs ≡ Some e → FirstMet (checks cs) e
+refused-first [] e h = let z : _≡_ {A = ℕ} 0 1 = cc in absurd (omega arith)
+refused-first (c ∷ cs) e h = at (c .met) refl h (refused-first cs e)
+  where
+    at : (b : Bool) → c .met ≡ b → cond b (Some (c .refusal)) (first-met cs) ≡ Some e → (first-met cs ≡ Some e → FirstMet (checks cs) e) → FirstMet (checks (c ∷ cs)) e
+    at true m k ih = inl (m, cc)
+    at false m k ih = inr (unmet (c .met) (c .refusal) m, ih k)
+
+pub refused-none : (cs : List Check) → first-met cs ≡ None → NoneMet (checks cs)
+refused-none [] h = tt
+refused-none (c ∷ cs) h = at (c .met) refl h (refused-none cs)
+  where
+    at : (b : Bool) → c .met ≡ b → cond b (Some (c .refusal)) (first-met cs) ≡ None → (first-met cs ≡ None → NoneMet (checks cs)) → NoneMet (checks (c ∷ cs))
+    at true m k ih = let z : _≡_ {A = ℕ} 0 1 = cc in absurd (omega arith)
+    at false m k ih = (unmet (c .met) (c .refusal) m, ih k)
 
 pub ranks-fine : (rs : List ℕ) → 1 ≤ length rs → length rs ≤ 32 → ((k : ℕ) → k < length rs → getD rs k 0 ≤ 4) → BadRanks rs → ⊥
 ranks-fine rs some few small (inl none) = omega arith

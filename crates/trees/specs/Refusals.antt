@@ -1,8 +1,11 @@
 -- The number of each refusal of the table layer, and how the tests of a call decide its answer.
 use mathlib.Core.Path.{_≡_}
+use mathlib.Core.Bool.{Bool, true, cond}
 use mathlib.Core.Logic.{_⊎_}
 use mathlib.Core.List.{List, [], _∷_}
 use Prim.Native.Nat.{ℕ}
+use Rattle.std.specs.declared.option.Option.{Option}
+use Rattle.std.specs.declared.option.Option.the-variants.{Some, None}
 use Rattle.std.specs.declared.result.Result.{Result}
 use Rattle.std.specs.declared.result.Result.the-variants.{Ok, Err}
 use Rattle.trees.specs.declared.refusal.Refusal.{Refusal}
@@ -28,6 +31,20 @@ Test = Refusal → Type 0
 -- the test that is met, by one refusal, if the condition holds
 abbrev pub when : Type 0 → Refusal → Test
 when P x e = P × (e ≡ x)
+
+-- a condition that can be computed, and its refusal
+pub record Check : Type 0 where
+  pub met : Bool
+  pub refusal : Refusal
+
+abbrev pub checks : List Check → List Test
+checks [] = []
+checks (c ∷ cs) = when (c .met ≡ true) (c .refusal) ∷ checks cs
+
+-- the refusal of the first check that is met
+abbrev pub first-met : List Check → Option Refusal
+first-met [] = None
+first-met (c ∷ cs) = cond (c .met) (Some (c .refusal)) (first-met cs)
 
 -- e is the refusal of the first test that is met
 abbrev pub FirstMet : List Test → Refusal → Type 0
