@@ -1,1 +1,4 @@
+pub mod Entries
+pub mod Lookups
 pub mod Positions
+pub mod Rows

@@ -59,3 +59,12 @@ module _ {X : Type 0} (p : X → Bool) where
 
   pub position-none : (xs : List X) (i : ℕ) → length xs ≤ i → position p (take i xs) ≡ None → position p xs ≡ None
   position-none xs i l none = rw (take-all i xs l) at none
+
+  pub position-within : (xs : List X) (i : ℕ) → position p xs ≡ Some i → i < length xs
+  position-within [] i e = let z : _≡_ {A = ℕ} 0 1 = cc in absurd (omega arith)
+  position-within (x ∷ xs) i e = at (p x) (position p xs) refl e (position-within xs)
+    where
+      at : (b : Bool) (o : Option ℕ) → position p xs ≡ o → cond b (Some 0) (mapped suc o) ≡ Some i → ((j : ℕ) → position p xs ≡ Some j → j < length xs) → i < suc (length xs)
+      at true o f k ih = let z : _≡_ {A = ℕ} 0 i = cc in omega arith
+      at false None f k ih = let z : _≡_ {A = ℕ} 0 1 = cc in absurd (omega arith)
+      at false (Some j) f k ih = let z : suc j ≡ i = cc in omega (arith, ih j f)

@@ -1,3 +1,5 @@
 pub mod Lookup
 pub mod Measures
+pub mod Running
 pub mod Shapes
+pub mod Weighing

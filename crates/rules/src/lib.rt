@@ -3,11 +3,20 @@
 mod left_side;
 mod lookup;
 mod measure;
+mod place;
 mod rule;
+mod run;
+mod running;
 mod shape;
+mod weighing;
 
 pub use left_side::LeftSide;
 pub use lookup::find;
+pub use lookup::rule_for;
 pub use measure::Measure;
+pub use place::Place;
 pub use rule::Rule;
+pub use run::Run;
+pub use running::weigh;
 pub use shape::Shape;
+pub use weighing::Weighing;

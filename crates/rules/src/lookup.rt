@@ -1,10 +1,16 @@
 // Looking up a rule by its left side.
 ghost use mathlib.Core.Path.{_≡_};
+ghost use mathlib.Core.List.{List, map};
+ghost use Prim.Native.Nat.{ℕ};
 ghost use lib.ListN.{length, take};
-ghost use Rattle.automata.specs.Automata.{same-list};
+ghost use Rattle.std.specs.Options.{mapped};
+ghost use Rattle.automata.specs.Trees.{rank};
+ghost use Rattle.automata.specs.Automata.{same-list, find as find-rule};
 ghost use Rattle.rules.specs.Lookup.{has-left, position};
+ghost use Rattle.rules.specs.Shapes.{transition};
 use crate::left_side::LeftSide;
 use crate::rule::Rule;
+use kinds::Kind;
 
 // Whether the first places hold just these states.
 fn begins_with(places: &[u8; 4], states: &[usize]) -> bool
@@ -38,4 +44,12 @@ pub fn find<W>(rules: &[Rule<W>], symbol: usize, children: &[usize]) -> Option<u
         }
     }
     None
+}
+
+// The first rule with the left side `symbol(children)`, for as many children as the symbol's rank.
+pub fn rule_for<W: Kind>(rules: &[Rule<W>], symbol: usize, children: &[usize]) -> Option<Rule<W>>
+    ensures { λ r. ⌜ ((ranks : List ℕ) → length (now (children .entry)) ≡ rank ranks symbol → mapped (transition (W·Kind .stands) ranks) r ≡ find-rule (map (transition (W·Kind .stands) ranks) (now (rules .entry))) symbol (now (children .entry))) ⌝ }
+{
+    let place = find(rules, symbol, children)?;
+    Some(rules[place])
 }

@@ -1,15 +1,19 @@
 -- Reading the ranks of an alphabet out of its array.
 use mathlib.Core.Path.{_≡_, sym, ap, _∙_, subst}
-use mathlib.Core.Logic.{⊎-elim}
+use mathlib.Core.Logic.{_≢_, ⊎-elim}
 use mathlib.Core.List.{List, [], _∷_}
 use Prim.Native.Nat.{ℕ, _≤_, _<_}
 use native.Mathlib.Omega.{arith}
 use lib.ListN.{length, take, getD, set, replicate}
+use Rattle.std.specs.Options.{valueOr}
 use Rattle.std.specs.shelf.Maps.{nth}
 use Rattle.std.specs.declared.option.Option.the-variants.{Some, None}
-use Rattle.std.proofs.shelf.Lists.{getD-take, getD-replicate, getD-past, getD-set-same, getD-set-other, set-past, length-take-le, length-replicate}
+use Rattle.std.proofs.shelf.Lists.{getD-take, getD-replicate, getD-past, getD-set-same, getD-set-other, set-past, length-set, length-take, length-take-le, length-replicate}
 use Rattle.std.proofs.shelf.Maps.{nth-getD, nth-past}
 use Rattle.std.proofs.shelf.Tests.{cases-lt, cases-eq}
+use Rattle.automata.specs.Trees.{rank}
+use Rattle.trees.specs.declared.alphabet.Alphabet.{Alphabet}
+use Rattle.trees.specs.Alphabets.{ranks-of}
 
 -- one value throughout, and past the end
 pub getD-constant : {X : Type 0} (n k : ℕ) (x : X) → getD (replicate n x) k x ≡ x
@@ -43,6 +47,15 @@ nth-none (x ∷ xs) i e l =
     let f : nth (x ∷ xs) i ≡ Some (getD (x ∷ xs) i x) = nth-getD (x ∷ xs) i x l in
     let z : _≡_ {A = ℕ} 0 1 = cc in omega arith
 
+pub nth-set-same : {X : Type 0} (xs : List X) (i : ℕ) (y : X) → i < length xs → nth (set xs i y) i ≡ Some y
+nth-set-same xs i y h =
+    nth-getD (set xs i y) i y (rw (length-set xs i y) h) ∙ ap Some (getD-set-same xs i y y h)
+
+pub nth-set-other : {X : Type 0} (xs : List X) (i j : ℕ) (y : X) → j ≢ i → nth (set xs i y) j ≡ nth xs j
+nth-set-other xs i j y n =
+    ⊎-elim (λ h. nth-getD (set xs i y) j y (rw (length-set xs i y) h) ∙ ap Some (getD-set-other xs i j y y n) ∙ sym (nth-getD xs j y h))
+    (λ h. nth-past (set xs i y) j (rw (length-set xs i y) h) ∙ sym (nth-past xs j h)) (cases-lt j (length xs))
+
 -- a write keeps what holds at every place
 pub set-small : (xs : List ℕ) (i v : ℕ) → v ≤ 4 → ((k : ℕ) → getD xs k 0 ≤ 4) → (k : ℕ) → getD (set xs i v) k 0 ≤ 4
 set-small xs i v h all k =
@@ -51,3 +64,15 @@ set-small xs i v h all k =
       (λ l. let g : getD (set xs i v) k 0 ≡ v = ap (λ n. getD (set xs i v) n 0) e ∙ getD-set-same xs i v 0 l in rw g h)
       (λ l. rw (set-past xs i v l) (all k)) (cases-lt i (length xs)))
     (λ n. let g : getD (set xs i v) k 0 ≡ getD xs k 0 = getD-set-other xs i k v 0 n in rw g (all k)) (cases-eq k i)
+
+-- an element or the default, past the end
+pub nth-or : {X : Type 0} (xs : List X) (i : ℕ) (d : X) → valueOr (nth xs i) d ≡ getD xs i d
+nth-or xs i d =
+    ⊎-elim (λ l. ap (λ o. valueOr o d) (nth-getD xs i d l))
+    (λ l. ap (λ o. valueOr o d) (nth-past xs i l) ∙ sym (getD-past xs i d l)) (cases-lt i (length xs))
+
+-- every rank of an alphabet is at most 4
+pub rank-small : (a : Alphabet) (s : ℕ) → rank (ranks-of a) s ≤ 4
+rank-small a s =
+    ⊎-elim (λ h. rw (getD-take (a .symbols) (a .ranks) s 0 h) (a .small s))
+    (λ h. let l : length (ranks-of a) ≤ s = omega (arith, length-take (a .symbols) (a .ranks)) in rw (getD-past (ranks-of a) s 0 l) (omega arith)) (cases-lt s (a .symbols))

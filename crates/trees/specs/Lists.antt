@@ -69,6 +69,10 @@ grown ranks ts (n ∷ ns) = grown ranks (ts ++ (node (n .symbol) (row-of ts (chi
 abbrev pub trees-of : List ℕ → List Node → List Tree
 trees-of ranks ns = grown ranks [] ns
 
+-- the tree of the entry i
+abbrev pub tree-at : List ℕ → List Node → ℕ → Tree
+tree-at ranks ns i = getD (trees-of ranks ns) i (node 0 none)
+
 -- the tree of a list is that of its last entry
 abbrev pub tree-of : List ℕ → List Node → Tree
-tree-of ranks ns = getD (trees-of ranks ns) (length ns - 1) (node 0 none)
+tree-of ranks ns = tree-at ranks ns (length ns - 1)

@@ -3,6 +3,7 @@ ghost use mathlib.Core.Path.{_≡_};
 ghost use mathlib.Core.Bool.{false};
 ghost use mathlib.Core.List.{[], _∷_};
 ghost use Prim.Native.Nat.{ℕ, _≤_};
+ghost use Rattle.automata.specs.Trees.{rank};
 ghost use Rattle.trees.specs.Alphabets.{ranks-of};
 ghost use Rattle.trees.specs.declared.refusal.Refusal.the-variants.{State};
 ghost use Rattle.trees.specs.Refusals.{when, Answers};
@@ -25,6 +26,14 @@ impl Shape {
         ensures { λ r. ⌜ ranks-of r ≡ ranks-in (now (self .entry)) ⌝ }
     {
         self.measure.alphabet()
+    }
+
+    // The rank of a symbol, and 0 for one that is not of the alphabet.
+    pub fn rank(&self, symbol: usize) -> usize
+        ensures value { λ r. ⌜ r ≡ rank (ranks-in (now (self .entry))) symbol ⌝ }
+        ensures small { λ r. ⌜ r ≤ 4 ⌝ }
+    {
+        self.measure.alphabet().rank(symbol).unwrap_or(0)
     }
 
     pub fn states(&self) -> usize

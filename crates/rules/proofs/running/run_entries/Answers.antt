@@ -1,0 +1,10 @@
+use mathlib.Core.Path.{sym, subst}
+use Prim.Native.Nat.{_+_}
+use native.Mathlib.Omega.{arith}
+use Rattle.rules.proofs.Entries.{Run-below, run-more}
+use Rattle.rules.proofs.running.run_entries.Needs as need
+
+pub loop-i-again : need.loop-i-again
+loop-i-again g c =
+    subst (λ work. Run-below (g .W·Kind .weights) (g .W·Kind .stands) (c .args .shape .now) (c .args .rules .now) (c .args .list .now) (c .pre .0) work (c .loop-i .i + 1)) (sym (c .put .ensures))
+    (run-more (g .W·Kind .weights) (g .W·Kind .stands) (c .args .shape .now) (c .args .rules .now) (c .args .list .now) (c .pre .0) (c .loop-i .work) (c .loop-i .i) (record { run = c .run-node-run .result }) (c .loop-i-test .taken) (omega arith) (c .loop-i .inv) (c .run-node-run .ensures))
