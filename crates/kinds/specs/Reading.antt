@@ -9,8 +9,8 @@ use Rattle.kinds.specs.declared.refusal.KindRefusal.the-variants.{NoWeight}
 use Rattle.kinds.specs.Weights.{Weights}
 
 -- the number of each refusal of this layer
-abbrev pub number : KindRefusal → ℕ
-number NoWeight = 8
+abbrev pub refusal-number : KindRefusal → ℕ
+refusal-number NoWeight = 8
 
 -- a code is read as a value that stands for its weight, or refused exactly if no weight has it
 abbrev pub Reads : {V W : Type 0} → Weights W → (V → W) → ℤ → Result V KindRefusal → Type 0
