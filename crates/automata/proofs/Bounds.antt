@@ -10,8 +10,8 @@ use Rattle.automata.specs.Automata.{Automaton, Sound}
 use Rattle.automata.specs.Runs.{At, run, Alike}
 use Rattle.automata.specs.Contexts.{Context, OverContext, plug, value, scaled, Live, Equivalent}
 use Rattle.automata.specs.Minimality.{Lower-bound}
-use Rattle.automata.proofs.Groups.{undo}
 use Rattle.automata.proofs.Lives.{over-plug, state-within}
+use Rattle.automata.proofs.Equivalents.{scaled-twice, scaled-back, equivalences}
 use Rattle.automata.proofs.Signs.{weighs-in, weighs-sign, weighs-nothing}
 use Rattle.automata.proofs.Pigeons.{pigeonhole}
 
@@ -25,22 +25,13 @@ pub record Together {W : Type 0} (K : Weights W) (A B : Automaton W) (p q : ℕ)
   pub runs-second : run K B tree ≡ Some (record { state = q; weight = second })
 
 module _ {W : Type 0} (K : Weights W) where
-  scaled-scaled : (a b : W) (o : Option W) → scaled K a (scaled K b o) ≡ scaled K (K .times a b) o
-  scaled-scaled a b None = refl
-  scaled-scaled a b (Some w) = ap Some (sym (K .assoc a b w))
-
-  unscaled : (a : W) (o : Option W) → scaled K (K .inverse a) (scaled K a o) ≡ o
-  unscaled a None = refl
-  unscaled a (Some w) = ap Some (undo K a w)
-
   -- two weights that are multiples of a third are multiples of one another
   quotient : (a b c d : W) (x y z : Option W) → scaled K a x ≡ scaled K b z → scaled K c y ≡ scaled K d z → x ≡ scaled K (K .times (K .times (K .inverse a) b) (K .times (K .inverse d) c)) y
   quotient a b c d x y z e f =
-      sym (unscaled a x)
-      ∙ ap (scaled K (K .inverse a)) e
-      ∙ scaled-scaled (K .inverse a) b z
-      ∙ ap (scaled K (K .times (K .inverse a) b)) (sym (unscaled d z) ∙ ap (scaled K (K .inverse d)) (sym f) ∙ scaled-scaled (K .inverse d) c y)
-      ∙ scaled-scaled (K .times (K .inverse a) b) (K .times (K .inverse d) c) y
+      scaled-back K a x (scaled K b z) e
+      ∙ scaled-twice K (K .inverse a) b z
+      ∙ ap (scaled K (K .times (K .inverse a) b)) (scaled-back K d z (scaled K c y) (sym f) ∙ scaled-twice K (K .inverse d) c y)
+      ∙ scaled-twice K (K .times (K .inverse a) b) (K .times (K .inverse d) c) y
 
   module _ (A B : Automaton W) (alike : Alike K A B) where
     -- in every context the two states give the same up to the run weights of the tree
@@ -50,9 +41,17 @@ module _ {W : Type 0} (K : Weights W) where
         ∙ alike .weights (plug c (h .tree)) (over-plug (A .ranks) c (h .tree) o (h .over))
         ∙ weighs-in K B c (h .tree) q (h .second) (h .runs-second)
 
-    -- states of A that stand together with one state of B are equivalent
-    same-partner : (p q k : ℕ) (h : Together K A B p k) (g : Together K A B q k) → Equivalent K A (K .times (K .times (K .inverse (h .first)) (h .second)) (K .times (K .inverse (g .second)) (g .first))) p q
-    same-partner p q k h g c o = quotient (h .first) (h .second) (g .first) (g .second) (value K A c p) (value K A c q) (value K B c k) (same-given p k c h o) (same-given q k c g o)
+    -- the factor of two states of A whose partners have the factor b
+    abbrev pub between-partners : {p q k l : ℕ} → W → Together K A B p k → Together K A B q l → W
+    between-partners b h g = K .times (K .times (K .inverse (h .first)) (K .times (h .second) b)) (K .times (K .inverse (g .second)) (g .first))
+
+    -- states of A that stand together with equivalent states of B are equivalent
+    pub equivalent-partners : (b : W) (p q k l : ℕ) (h : Together K A B p k) (g : Together K A B q l) → Equivalent K B b k l → Equivalent K A (between-partners b h g) p q
+    equivalent-partners b p q k l h g e c o =
+        let over : OverContext (B .ranks) c = rw (alike .alphabet) at o in
+        quotient (h .first) (K .times (h .second) b) (g .first) (g .second) (value K A c p) (value K A c q) (value K B c l)
+            (same-given p k c h o ∙ ap (scaled K (h .second)) (e c over) ∙ scaled-twice K (h .second) b (value K B c l))
+            (same-given q l c g o)
 
     -- a live state of A stands together with a state of B
     partner : Sound B → (p : ℕ) → Live K A p → (k : ℕ) × (k < B .states) × Together K A B p k
@@ -83,4 +82,4 @@ pub lower-bound : {W : Type 0} (K : Weights W) → Lower-bound K
 lower-bound K A reduced B sound alike =
     pigeonhole (B .states) (A .states) (Together K A B)
     (λ p h. partner K A B alike sound p (reduced .live p h))
-    (λ p q k h g s t. reduced .apart p q h g _ (same-partner K A B alike p q k s t))
+    (λ p q k h g s t. reduced .apart p q h g _ (equivalent-partners K A B alike (K .one) p q k k s t (equivalences K B sound .reflexive k)))

@@ -3,7 +3,10 @@ pub mod Finds
 pub mod Plugs
 pub mod Steps
 pub mod Lives
+pub mod Rows
+pub mod Equivalents
 pub mod Pushes
+pub mod Places
 pub mod Drops
 pub mod Trims
 pub mod Firsts
@@ -12,10 +15,10 @@ pub mod Merges
 pub mod Signs
 pub mod Pigeons
 pub mod Bounds
+pub mod Reduces
+pub mod Examples
 pub mod Witnesses
 pub mod Explores
-pub mod Rows
-pub mod Equivalents
 pub mod Simulations
 pub mod Marks
 pub mod SecondMarks

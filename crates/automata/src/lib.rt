@@ -6,7 +6,7 @@ ghost use Rattle.automata.specs.Pushing.{Plugging, Pushing};
 ghost use Rattle.automata.specs.Merging.{Trimming, Grouping, Admissible, Merging};
 ghost use Rattle.automata.specs.Equivalence.{Equivalences};
 ghost use Rattle.automata.specs.Marking.{Decides-live, True-marks, Chosen, First-round, Second-round};
-ghost use Rattle.automata.specs.Minimality.{Lower-bound};
+ghost use Rattle.automata.specs.Minimality.{Lower-bound, By-equivalence, Reducing};
 ghost use Rattle.automata.specs.Comparing.{Failing-witnessed, Same-by-exploring};
 use kinds::Kind;
 
@@ -48,6 +48,11 @@ pub fn second_round_stands<W: Kind>()
 // An automaton whose states are live and pairwise not equivalent has no more states than any that weighs every tree alike.
 pub fn lower_bound_stands<W: Kind>()
     ensures { λ _. ⌜ Lower-bound (W·Kind .weights) ⌝ }
+{}
+
+// Merging the classes of equivalent live states gives the smallest automaton that weighs every tree alike.
+pub fn reducing_stands<W: Kind>()
+    ensures { λ _. ⌜ ((A : Automaton W·Weight) (G : Grouping W·Weight) → Sound A → By-equivalence (W·Kind .weights) A G → Reducing (W·Kind .weights) A G) ⌝ }
 {}
 
 // Two automata over one alphabet with a complete exploration weigh every tree alike.

@@ -2,6 +2,7 @@
 use mathlib.Core.Path.{_≡_}
 use mathlib.Core.Bool.{Bool, true, false}
 use Prim.Native.Nat.{ℕ}
+use Rattle.std.specs.Options.{mapped}
 use Rattle.std.specs.declared.option.Option.{Option}
 use Rattle.std.specs.declared.option.Option.the-variants.{Some, None}
 use Rattle.kinds.specs.Weights.{Weights}
@@ -14,7 +15,7 @@ use Rattle.rules.specs.declared.weighing.Weighing.the-variants.{NoRun, Ended, 
 -- no run; or a run to a state that is not accepting; or to an accepting one, with the run weight
 abbrev pub Said : {V W : Type 0} → (V → W) → (ℕ → Bool) → Option (At W) → Weighing V → Type 0
 Said stands accepting ran NoRun = ran ≡ None
-Said {V} {W} stands accepting ran (Ended q) = (accepting q ≡ false) × ((w : W) × (ran ≡ Some (record { state = q; weight = w })))
+Said stands accepting ran (Ended q) = (accepting q ≡ false) × (mapped (λ a. a .state) ran ≡ Some q)
 Said stands accepting ran (Weighs q v) = (accepting q ≡ true) × (ran ≡ Some (record { state = q; weight = stands v }))
 
 abbrev pub Says : {V W : Type 0} → (V → W) → Weights W → Automaton W → Tree → Weighing V → Type 0
