@@ -17,6 +17,7 @@ use Rattle.trees.specs.declared.node.Node.{Node}
 use Rattle.trees.specs.Lists.{blank, children-of, IsTreeList, row-of, trees-of, tree-at}
 use Rattle.trees.proofs.Entries.{tree-entry, children-earlier}
 use Rattle.trees.proofs.Ranks.{nth-set-same, nth-set-other, rank-small}
+use Rattle.rules.specs.declared.side.Side.{Side}
 use Rattle.rules.specs.declared.place.Place.{Place}
 use Rattle.rules.specs.declared.rule.Rule.{Rule}
 use Rattle.rules.specs.declared.shape.Shape.{Shape}
@@ -31,25 +32,25 @@ runs-row : {W : Type 0} (K : Weights W) (A : Automaton W) (ts : List Tree) (cs :
 runs-row K A ts [] = refl
 runs-row K A ts (c ∷ cs) = ap (beside K (run K A (getD ts c (node 0 none)))) (runs-row K A ts cs)
 
-module _ {V W : Type 0} (K : Weights W) (stands : V → W) (shape : Shape) (rules : List (Rule V)) (ns : List Node) (is : IsTreeList (ranks-in shape) ns) where
+module _ {V W : Type 0} (K : Weights W) (stands : V → W) (shape : Shape) (rules : List (Rule V)) (ns : List Node) (is : IsTreeList (ranks-in shape) ns) (side : Side) where
   abbrev A : Automaton W
   A = automaton stands shape rules
 
   -- the places below i hold the runs of their entries
   abbrev pub Run-below : List (Place V) → ℕ → Type 0
-  Run-below work i = (j : ℕ) → j < i → run-at stands work j ≡ run K A (tree-at (ranks-in shape) ns j)
+  Run-below work i = (j : ℕ) → j < i → run-at stands side work j ≡ run K A (tree-at (ranks-in shape) ns j)
 
-  entry-run : (work : List (Place V)) (i : ℕ) → i < length ns → Run-below work i → step K A (getD ns i blank .symbol) (row-runs K (map (run-at stands work) (children-of (ranks-in shape) (getD ns i blank)))) ≡ run K A (tree-at (ranks-in shape) ns i)
+  entry-run : (work : List (Place V)) (i : ℕ) → i < length ns → Run-below work i → step K A (getD ns i blank .symbol) (row-runs K (map (run-at stands side work) (children-of (ranks-in shape) (getD ns i blank)))) ≡ run K A (tree-at (ranks-in shape) ns i)
   entry-run work i h below =
       let n = getD ns i blank in
       let earlier = children-earlier (ranks-in shape) i n (rank-small (shape .measure .alphabet) (n .symbol)) (is .good i h) in
-      ap (λ l. step K A (n .symbol) (row-runs K l)) (map-same (run-at stands work) (λ c. run K A (tree-at (ranks-in shape) ns c)) i (children-of (ranks-in shape) n) below earlier)
+      ap (λ l. step K A (n .symbol) (row-runs K l)) (map-same (run-at stands side work) (λ c. run K A (tree-at (ranks-in shape) ns c)) i (children-of (ranks-in shape) n) below earlier)
       ∙ ap (step K A (n .symbol)) (sym (runs-row K A (trees-of (ranks-in shape) ns) (children-of (ranks-in shape) n)))
       ∙ ap (run K A) (sym (tree-entry (ranks-in shape) ns i h earlier))
 
   -- one entry more
-  pub run-more : (work : List (Place V)) (i : ℕ) (p : Place V) → i < length ns → i < length work → Run-below work i → place-run stands (Some p) ≡ step K A (getD ns i blank .symbol) (row-runs K (map (run-at stands work) (children-of (ranks-in shape) (getD ns i blank)))) → Run-below (set work i p) (i + 1)
+  pub run-more : (work : List (Place V)) (i : ℕ) (p : Place V) → i < length ns → i < length work → Run-below work i → place-run stands side (Some p) ≡ step K A (getD ns i blank .symbol) (row-runs K (map (run-at stands side work) (children-of (ranks-in shape) (getD ns i blank)))) → Run-below (set work i p) (i + 1)
   run-more work i p h l below ran j m =
       ⊎-elim
-      (λ e. ap (run-at stands (set work i p)) e ∙ ap (place-run stands) (nth-set-same work i p l) ∙ ran ∙ entry-run work i h below ∙ ap (λ k. run K A (tree-at (ranks-in shape) ns k)) (sym e))
-      (λ n. ap (place-run stands) (nth-set-other work i j p n) ∙ below j (omega arith)) (cases-eq j i)
+      (λ e. ap (run-at stands side (set work i p)) e ∙ ap (place-run stands side) (nth-set-same work i p l) ∙ ran ∙ entry-run work i h below ∙ ap (λ k. run K A (tree-at (ranks-in shape) ns k)) (sym e))
+      (λ n. ap (place-run stands side) (nth-set-other work i j p n) ∙ below j (omega arith)) (cases-eq j i)

@@ -1,5 +1,6 @@
 // Rules and shapes of tables, on plain structs and slices.
 
+mod blank;
 mod left_side;
 mod lookup;
 mod measure;
@@ -8,6 +9,7 @@ mod rule;
 mod run;
 mod running;
 mod shape;
+mod side;
 mod weighing;
 
 pub use left_side::LeftSide;
@@ -17,6 +19,9 @@ pub use measure::Measure;
 pub use place::Place;
 pub use rule::Rule;
 pub use run::Run;
+pub use running::run_node;
+pub use running::run_of;
 pub use running::weigh;
 pub use shape::Shape;
+pub use side::Side;
 pub use weighing::Weighing;

@@ -1,14 +1,11 @@
-// A place of a work list. What it holds means nothing between calls.
+// A place of a work list: a node, and its runs in up to two tables. What it holds means nothing between calls.
 use crate::run::Run;
 use crate::run::RunClone;
+use trees::Node;
 
 #[derive(Clone, Copy)]
 pub struct Place<W> {
-    pub run: Option<Run<W>>,
-}
-
-impl<W> Place<W> {
-    pub fn new() -> Place<W> {
-        Place { run: None }
-    }
+    pub node: Node,
+    pub first: Option<Run<W>>,
+    pub second: Option<Run<W>>,
 }

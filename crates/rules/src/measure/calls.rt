@@ -1,6 +1,7 @@
 // Measuring.
 ghost use mathlib.Core.Path.{_≡_};
 ghost use mathlib.Core.List.{[], _∷_};
+ghost use Prim.Native.Nat.{min};
 ghost use Rattle.trees.specs.Alphabets.{ranks-of};
 ghost use Rattle.rules.specs.Measures.{ranks, Measured};
 use crate::measure::Measure;
@@ -38,5 +39,13 @@ impl Measure {
         ensures { λ r. ⌜ r ≡ now (self .entry) .states ⌝ }
     {
         self.states
+    }
+
+    // The same alphabet with another number of states, 48 at most.
+    pub fn with_states(&self, states: usize) -> Measure
+        ensures ranks { λ r. ⌜ ranks r ≡ ranks (now (self .entry)) ⌝ }
+        ensures states { λ r. ⌜ r .states ≡ min states 48 ⌝ }
+    {
+        Measure { alphabet: self.alphabet, states: states.min(48) }
     }
 }

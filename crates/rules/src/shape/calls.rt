@@ -2,7 +2,7 @@
 ghost use mathlib.Core.Path.{_≡_};
 ghost use mathlib.Core.Bool.{false};
 ghost use mathlib.Core.List.{[], _∷_};
-ghost use Prim.Native.Nat.{ℕ, _≤_};
+ghost use Prim.Native.Nat.{ℕ, min, _≤_};
 ghost use Rattle.automata.specs.Trees.{rank};
 ghost use Rattle.trees.specs.Alphabets.{ranks-of};
 ghost use Rattle.trees.specs.declared.refusal.Refusal.the-variants.{State};
@@ -58,5 +58,14 @@ impl Shape {
         }
         self.accepting[state] = true;
         Ok(())
+    }
+
+    // The same alphabet with another number of states, 48 at most, and other marks.
+    pub fn regrouped(&self, states: usize, accepting: [bool; 48]) -> Shape
+        ensures ranks { λ r. ⌜ ranks-in r ≡ ranks-in (now (self .entry)) ⌝ }
+        ensures states { λ r. ⌜ states-in r ≡ min states 48 ⌝ }
+        ensures marks { λ r. ⌜ r .accepting ≡ accepting ⌝ }
+    {
+        Shape { measure: self.measure.with_states(states), accepting }
     }
 }

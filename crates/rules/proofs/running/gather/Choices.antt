@@ -6,4 +6,4 @@ use Rattle.rules.proofs.running.gather.Given as given
 
 abbrev pub Inv-loop-k : given.InvT-loop-k
 Inv-loop-k g l =
-    (length (l .states) ≡ 4) × Gathering (g .W·Kind .weights) (run-at (g .W·Kind .stands) (l .work)) (l .entries) (l .states) (l .k) (g .W·Kind .stands (l .weight))
+    (length (l .states) ≡ 4) × Gathering (g .W·Kind .weights) (run-at (g .W·Kind .stands) (l .side) (l .work)) (l .entries) (l .states) (l .k) (g .W·Kind .stands (l .weight))
