@@ -1,3 +1,4 @@
+pub mod Adds
 pub mod Entries
 pub mod Lookups
 pub mod Positions

@@ -1,3 +1,4 @@
+pub mod Books
 pub mod Lookup
 pub mod Measures
 pub mod Running

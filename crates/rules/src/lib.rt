@@ -1,5 +1,6 @@
 // Rules and shapes of tables, on plain structs and slices.
 
+mod adding;
 mod blank;
 mod left_side;
 mod lookup;
@@ -12,6 +13,7 @@ mod shape;
 mod side;
 mod weighing;
 
+pub use adding::append;
 pub use left_side::LeftSide;
 pub use lookup::find;
 pub use lookup::rule_for;

@@ -1,14 +1,14 @@
 -- Reading the ranks of an alphabet out of its array.
 use mathlib.Core.Path.{_≡_, sym, ap, _∙_, subst}
 use mathlib.Core.Logic.{_≢_, ⊎-elim}
-use mathlib.Core.List.{List, [], _∷_}
-use Prim.Native.Nat.{ℕ, _≤_, _<_}
+use mathlib.Core.List.{List, [], _∷_, _++_}
+use Prim.Native.Nat.{ℕ, _+_, min, _≤_, _<_}
 use native.Mathlib.Omega.{arith}
 use lib.ListN.{length, take, getD, set, replicate}
 use Rattle.std.specs.Options.{valueOr}
 use Rattle.std.specs.shelf.Maps.{nth}
 use Rattle.std.specs.declared.option.Option.the-variants.{Some, None}
-use Rattle.std.proofs.shelf.Lists.{getD-take, getD-replicate, getD-past, getD-set-same, getD-set-other, set-past, length-set, length-take, length-take-le, length-replicate}
+use Rattle.std.proofs.shelf.Lists.{getD-take, getD-replicate, getD-past, getD-set-same, getD-set-other, set-past, take-more, take-more-set, take-all, length-set, length-take, length-take-le, length-replicate}
 use Rattle.std.proofs.shelf.Maps.{nth-getD, nth-past}
 use Rattle.std.proofs.shelf.Tests.{cases-lt, cases-eq}
 use Rattle.automata.specs.Trees.{rank}
@@ -56,6 +56,14 @@ nth-set-other xs i j y n =
     ⊎-elim (λ h. nth-getD (set xs i y) j y (rw (length-set xs i y) h) ∙ ap Some (getD-set-other xs i j y y n) ∙ sym (nth-getD xs j y h))
     (λ h. nth-past (set xs i y) j (rw (length-set xs i y) h) ∙ sym (nth-past xs j h)) (cases-lt j (length xs))
 
+-- copying one element more
+pub copy-more : {X : Type 0} (xs ys : List X) (i : ℕ) (d : X) → i < length xs → i < length ys → take i xs ≡ take i ys → take (i + 1) (set xs i (getD ys i d)) ≡ take (i + 1) ys
+copy-more xs ys i d h k e =
+    take-more-set xs i (getD ys i d) h ∙ ap (λ zs. zs ++ getD ys i d ∷ []) e ∙ sym (take-more ys i d k)
+
+pub copy-all : {X : Type 0} (xs ys : List X) (i : ℕ) → length ys ≡ i → take i xs ≡ take i ys → take (length ys) xs ≡ ys
+copy-all xs ys i n e = ap (λ k. take k xs) n ∙ e ∙ take-all i ys (omega arith)
+
 -- a write keeps what holds at every place
 pub set-small : (xs : List ℕ) (i v : ℕ) → v ≤ 4 → ((k : ℕ) → getD xs k 0 ≤ 4) → (k : ℕ) → getD (set xs i v) k 0 ≤ 4
 set-small xs i v h all k =
@@ -76,3 +84,11 @@ pub rank-small : (a : Alphabet) (s : ℕ) → rank (ranks-of a) s ≤ 4
 rank-small a s =
     ⊎-elim (λ h. rw (getD-take (a .symbols) (a .ranks) s 0 h) (a .small s))
     (λ h. let l : length (ranks-of a) ≤ s = omega (arith, length-take (a .symbols) (a .ranks)) in rw (getD-past (ranks-of a) s 0 l) (omega arith)) (cases-lt s (a .symbols))
+
+pub ranks-few : (a : Alphabet) → length (ranks-of a) ≤ 32
+ranks-few a = omega (arith, length-take (a .symbols) (a .ranks), a .few)
+
+-- no more elements than there are
+pub take-capped : {X : Type 0} (n m : ℕ) (xs : List X) → m ≡ min n (length xs) → take m xs ≡ take n xs
+take-capped n m xs e =
+    ⊎-elim (λ h. ap (λ k. take k xs) (omega arith)) (λ h. take-all m xs (omega arith) ∙ sym (take-all n xs h)) (cases-lt n (length xs))
