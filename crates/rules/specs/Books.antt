@@ -25,6 +25,14 @@ abbrev pub opened : {W : Type 0} → List ℕ → ℕ → ℕ → Book W
 opened ranks states places =
     record { places = places; content = record { ranks = ranks; states = states; accepting = λ q. false; rules = [] } }
 
+-- b is that book, place by place
+pub record Opens {W : Type 0} (ranks : List ℕ) (states places : ℕ) (b : Book W) : Type 0 where
+  pub same-places : b .places ≡ places
+  pub same-ranks : b .content .ranks ≡ ranks
+  pub same-states : b .content .states ≡ states
+  pub no-accepting : (q : ℕ) → b .content .accepting q ≡ false
+  pub no-rules : b .content .rules ≡ []
+
 -- accept is refused for a state that is none
 abbrev pub accept-checks : {W : Type 0} → Book W → ℕ → List Check
 accept-checks b q = record { met = leb (b .content .states) q; refusal = State } ∷ []
@@ -33,6 +41,14 @@ accept-checks b q = record { met = leb (b .content .states) q; refusal = State }
 abbrev pub accepted : {W : Type 0} → Book W → ℕ → Book W
 accepted b q =
     record { places = b .places; content = record { ranks = b .content .ranks; states = b .content .states; accepting = λ p. cond (eqb p q) true (b .content .accepting p); rules = b .content .rules } }
+
+-- b′ is that book, place by place
+pub record Accepts {W : Type 0} (q : ℕ) (b b′ : Book W) : Type 0 where
+  pub same-places : b′ .places ≡ b .places
+  pub same-ranks : b′ .content .ranks ≡ b .content .ranks
+  pub same-states : b′ .content .states ≡ b .content .states
+  pub marks : (p : ℕ) → b′ .content .accepting p ≡ cond (eqb p q) true (b .content .accepting p)
+  pub same-rules : b′ .content .rules ≡ b .content .rules
 
 -- the tests of add, in order: the symbol, the number of children, the states, the left side, the memory
 abbrev pub add-checks : {W : Type 0} → Book W → ℕ → List ℕ → ℕ → List Check

@@ -2,7 +2,7 @@
 ghost use mathlib.Core.Path.{_≡_};
 ghost use mathlib.Core.List.{[], _∷_, map};
 ghost use Prim.Native.Nat.{ℕ, _≤_, _<_};
-ghost use lib.ListN.{length, set};
+ghost use lib.ListN.{length, set, take};
 ghost use Rattle.std.specs.Options.{mapped};
 ghost use Rattle.automata.specs.Runs.{step, run as run-of};
 ghost use Rattle.trees.specs.Lists.{IsTreeList, children-of, tree-at, tree-of, bad-list};
@@ -99,8 +99,8 @@ fn verdict<W: Kind>(shape: &Shape, run: Option<Run<W>>) -> Weighing<W>
     }
 }
 
-// Weighs the tree of a list.
-pub fn weigh<W: Kind>(shape: &Shape, rules: &[Rule<W>], list: &[Node], work: &mut [Place<W>]) -> Result<Weighing<W>, Refusal>
+// Weighs the tree of a list by these rules.
+fn weigh_rules<W: Kind>(shape: &Shape, rules: &[Rule<W>], list: &[Node], work: &mut [Place<W>]) -> Result<Weighing<W>, Refusal>
     ensures { λ r. ⌜ Answers (bad-list (ranks-in (now (shape .entry))) (now (list .entry)) ∷ when (length (now (work .entry)) < length (now (list .entry))) Short ∷ []) (Says (W·Kind .stands) (W·Kind .weights) (automaton (W·Kind .stands) (now (shape .entry)) (now (rules .entry))) (tree-of (ranks-in (now (shape .entry))) (now (list .entry)))) (now (work .exit) ≡ now (work .entry)) r ⌝ }
 {
     check_list(&shape.alphabet(), list)?;
@@ -109,4 +109,20 @@ pub fn weigh<W: Kind>(shape: &Shape, rules: &[Rule<W>], list: &[Node], work: &mu
     }
     run_entries(shape, rules, list, work);
     Ok(verdict(shape, run_of(work, Side::First, list.len() - 1)))
+}
+
+// Weighs the tree of a list by the first `count` rules.
+fn weigh_first<W: Kind>(shape: &Shape, memory: &[Rule<W>], count: usize, list: &[Node], work: &mut [Place<W>]) -> Result<Weighing<W>, Refusal>
+    ensures { λ r. ⌜ Answers (bad-list (ranks-in (now (shape .entry))) (now (list .entry)) ∷ when (length (now (work .entry)) < length (now (list .entry))) Short ∷ []) (Says (W·Kind .stands) (W·Kind .weights) (automaton (W·Kind .stands) (now (shape .entry)) (take count (now (memory .entry)))) (tree-of (ranks-in (now (shape .entry))) (now (list .entry)))) (now (work .exit) ≡ now (work .entry)) r ⌝ }
+{
+    let used = count.min(memory.len());
+    weigh_rules(shape, &memory[0..used], list, work)
+}
+
+// Weighs the tree of a list by the first `count` rules of the memory, which stays as it is.
+pub fn weigh<W: Kind>(shape: &Shape, memory: &mut [Rule<W>], count: usize, list: &[Node], work: &mut [Place<W>]) -> Result<Weighing<W>, Refusal>
+    ensures answer { λ r. ⌜ Answers (bad-list (ranks-in (now (shape .entry))) (now (list .entry)) ∷ when (length (now (work .entry)) < length (now (list .entry))) Short ∷ []) (Says (W·Kind .stands) (W·Kind .weights) (automaton (W·Kind .stands) (now (shape .entry)) (take count (now (memory .entry)))) (tree-of (ranks-in (now (shape .entry))) (now (list .entry)))) (now (work .exit) ≡ now (work .entry)) r ⌝ }
+    ensures same { λ _. ⌜ now (memory .exit) ≡ now (memory .entry) ⌝ }
+{
+    weigh_first(shape, memory, count, list, work)
 }

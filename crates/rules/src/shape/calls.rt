@@ -3,10 +3,11 @@ ghost use mathlib.Core.Path.{_≡_};
 ghost use mathlib.Core.Bool.{false};
 ghost use mathlib.Core.List.{[], _∷_};
 ghost use Prim.Native.Nat.{ℕ, min, _≤_};
+ghost use lib.Dec.{leb};
 ghost use Rattle.automata.specs.Trees.{rank};
 ghost use Rattle.trees.specs.Alphabets.{ranks-of};
 ghost use Rattle.trees.specs.declared.refusal.Refusal.the-variants.{State};
-ghost use Rattle.trees.specs.Refusals.{when, Answers};
+ghost use Rattle.trees.specs.Refusals.{checks, Answers};
 ghost use Rattle.rules.specs.Shapes.{ranks-in, states-in, accepts-in, Marked};
 use crate::measure::Measure;
 use crate::shape::Shape;
@@ -51,7 +52,7 @@ impl Shape {
 
     // Marks a state.
     pub fn accept(&mut self, state: usize) -> Result<(), Refusal>
-        ensures { λ r. ⌜ Answers (when (states-in (now (self .entry)) ≤ state) State ∷ []) (λ _. Marked state (now (self .entry)) (now (self .exit))) (now (self .exit) ≡ now (self .entry)) r ⌝ }
+        ensures { λ r. ⌜ Answers (checks (record { met = leb (states-in (now (self .entry))) state; refusal = State } ∷ [])) (λ _. Marked state (now (self .entry)) (now (self .exit))) (now (self .exit) ≡ now (self .entry)) r ⌝ }
     {
         if state >= self.measure.states() {
             return Err(Refusal::State);

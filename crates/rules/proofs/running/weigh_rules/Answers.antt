@@ -10,7 +10,7 @@ use Rattle.trees.specs.declared.refusal.Refusal.{Refusal}
 use Rattle.trees.specs.Lists.{bad-list}
 use Rattle.rules.specs.Shapes.{accepts-in}
 use Rattle.rules.specs.Weighing.{Said}
-use Rattle.rules.proofs.running.weigh.Needs as need
+use Rattle.rules.proofs.running.weigh_rules.Needs as need
 
 pub returns-then-work-list : need.returns-then-work-list
 returns-then-work-list g c =

@@ -1,0 +1,23 @@
+-- What a draft and a closed table hold, as a book.
+use mathlib.Core.Path.{_≡_}
+use denote.Ref.{now}
+use Rattle.rules.specs.Books.{Book, holding}
+use Rattle.tables.specs.declared.draft.Draft.{Draft}
+use Rattle.tables.specs.declared.closed.Closed.{Closed}
+
+abbrev pub draft-holds : {V W : Type 0} → (V → W) → Draft V → Book W
+draft-holds stands d = holding stands (d .shape) (now (d .rules)) (d .count)
+
+abbrev pub closed-holds : {V W : Type 0} → (V → W) → Closed V → Book W
+closed-holds stands c = holding stands (c .shape) (now (c .rules)) (c .count)
+
+-- nothing has changed, the memory beyond the rules included
+pub record Same-draft {V : Type 0} (d d′ : Draft V) : Type 0 where
+  pub shape : d′ .shape ≡ d .shape
+  pub count : d′ .count ≡ d .count
+  pub memory : now (d′ .rules) ≡ now (d .rules)
+
+pub record Same-closed {V : Type 0} (c c′ : Closed V) : Type 0 where
+  pub shape : c′ .shape ≡ c .shape
+  pub count : c′ .count ≡ c .count
+  pub memory : now (c′ .rules) ≡ now (c .rules)
