@@ -80,7 +80,7 @@ fn left_side(symbol: usize, children: &[usize]) -> LeftSide
 }
 
 // Writes a rule into a place of the memory.
-fn put_rule<W: Kind>(memory: &mut [Rule<W>], place: usize, rule: Rule<W>)
+pub(crate) fn put_rule<W: Kind>(memory: &mut [Rule<W>], place: usize, rule: Rule<W>)
     requires { ⌜ place < length (now memory) ⌝ }
     ensures { λ _. ⌜ now (memory .exit) ≡ set (now (memory .entry)) place rule ⌝ }
 {

@@ -5,14 +5,16 @@ ghost use Prim.Native.Nat.{_<_};
 ghost use lib.ListN.{length};
 ghost use Rattle.trees.specs.declared.refusal.Refusal.the-variants.{Short};
 ghost use Rattle.trees.specs.Lists.{bad-list, tree-of};
-ghost use Rattle.trees.specs.Refusals.{when, Answers};
+ghost use Rattle.trees.specs.Refusals.{when, checks, Answers};
+ghost use Rattle.rules.specs.Pushing.{push-checks};
 ghost use Rattle.rules.specs.Shapes.{ranks-in};
 ghost use Rattle.rules.specs.Weighing.{Says};
-ghost use Rattle.tables.specs.Images.{closed-holds, Same-closed};
+ghost use Rattle.tables.specs.Images.{closed-holds, Same-closed, Pushed-closed};
 use crate::closed::Closed;
 use kinds::Kind;
 use rules::Place;
 use rules::Weighing;
+use rules::push;
 use rules::weigh;
 use trees::Node;
 use trees::Refusal;
@@ -26,5 +28,14 @@ impl<'a, W: Kind> Closed<'a, W> {
         let shape = self.shape;
         let count = self.count;
         weigh(&shape, self.rules, count, list, work)
+    }
+
+    // Pushes weight through a state that is not accepting.
+    pub fn push(&mut self, state: usize, factor: W) -> Result<(), Refusal>
+        ensures answer { λ r. ⌜ Answers (checks (push-checks (closed-holds (W·Kind .stands) (now (self .entry))) state)) (λ _. Pushed-closed (W·Kind .weights) (W·Kind .stands) state (W·Kind .stands factor) (now (self .entry)) (now (self .exit))) (Same-closed (now (self .entry)) (now (self .exit))) r ⌝ }
+    {
+        let shape = self.shape;
+        let count = self.count;
+        push(&shape, self.rules, count, state, factor)
     }
 }
