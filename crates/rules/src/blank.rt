@@ -24,6 +24,6 @@ impl<W: Kind> Place<W> {
         ensures first { λ r. ⌜ r .first ≡ None ⌝ }
         ensures second { λ r. ⌜ r .second ≡ None ⌝ }
     {
-        Place { node: Node { symbol: 0, children: [0; 4] }, first: None, second: None }
+        Place { node: Node { symbol: 0, children: [0; 4] }, first: None, second: None, mark: 0 }
     }
 }

@@ -1,4 +1,4 @@
-// A place of a work list: a node, and its runs in up to two tables. What it holds means nothing between calls.
+// A place of a work list: a node, its runs in up to two tables, and a mark. What it holds means nothing between calls.
 use crate::run::Run;
 use crate::run::RunClone;
 use trees::Node;
@@ -8,4 +8,5 @@ pub struct Place<W> {
     pub node: Node,
     pub first: Option<Run<W>>,
     pub second: Option<Run<W>>,
+    pub mark: usize,
 }

@@ -79,7 +79,7 @@ fn run_entries<W: Kind>(shape: &Shape, rules: &[Rule<W>], list: &[Node], work: &
 {
     for i in 0..list.len() {
         let first = run_node(shape, rules, &list[i], work, Side::First);
-        put(work, i, Place { node: list[i], first, second: None });
+        put(work, i, Place { node: list[i], first, second: None, mark: 0 });
     }
 }
 
