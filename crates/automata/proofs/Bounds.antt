@@ -50,8 +50,8 @@ module _ {W : Type 0} (K : Weights W) where
     equivalent-partners b p q k l h g e c o =
         let over : OverContext (B .ranks) c = rw (alike .alphabet) at o in
         quotient (h .first) (K .times (h .second) b) (g .first) (g .second) (value K A c p) (value K A c q) (value K B c l)
-            (same-given p k c h o ∙ ap (scaled K (h .second)) (e c over) ∙ scaled-twice K (h .second) b (value K B c l))
-            (same-given q l c g o)
+        (same-given p k c h o ∙ ap (scaled K (h .second)) (e c over) ∙ scaled-twice K (h .second) b (value K B c l))
+        (same-given q l c g o)
 
     -- a live state of A stands together with a state of B
     partner : Sound B → (p : ℕ) → Live K A p → (k : ℕ) × (k < B .states) × Together K A B p k

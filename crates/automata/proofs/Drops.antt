@@ -5,6 +5,7 @@ use mathlib.Core.List.{List, [], _∷_}
 use Prim.Native.Nat.{ℕ}
 use native.Mathlib.Omega.{arith}
 use Rattle.std.specs.shelf.Lists.{All, kept-by}
+use Rattle.std.proofs.shelf.Tests.{and-parts, and-from}
 use Rattle.std.specs.declared.option.Option.{Option}
 use Rattle.std.specs.declared.option.Option.the-variants.{Some, None}
 use Rattle.kinds.specs.Weights.{Weights}
@@ -12,7 +13,7 @@ use Rattle.automata.specs.Trees.{Tree, Row, node, none, _▹_}
 use Rattle.automata.specs.Automata.{Transition, Automaton, fits-left, find, Single}
 use Rattle.automata.specs.Runs.{At, Ats, beside, applied, step, run, runs}
 use Rattle.automata.specs.Merging.{all-in, keeps, dropped}
-use Rattle.automata.proofs.Finds.{and-left, and-right, and-both, fits-symbol, fits-children}
+use Rattle.automata.proofs.Finds.{fits-symbol, fits-children}
 use Rattle.automata.proofs.Steps.{beside-some, step-some}
 
 -- a rule if it passes
@@ -23,13 +24,23 @@ passing p (Some r) = cond (p r) (Some r) None
 -- membership of all states, as a test and as a statement
 pub all-in-all : (keep : ℕ → Bool) (qs : List ℕ) → all-in keep qs ≡ true → All (λ q. keep q ≡ true) qs
 all-in-all keep [] e = tt
-all-in-all keep (q ∷ qs) e = (and-left (keep q) (all-in keep qs) e, all-in-all keep qs (and-right (keep q) (all-in keep qs) e))
+all-in-all keep (q ∷ qs) e = let h = and-parts (keep q) (all-in keep qs) e in (h .0, all-in-all keep qs (h .1))
 
 pub all-all-in : (keep : ℕ → Bool) (qs : List ℕ) → All (λ q. keep q ≡ true) qs → all-in keep qs ≡ true
 all-all-in keep [] h = refl
-all-all-in keep (q ∷ qs) h = and-both (keep q) (all-in keep qs) (h .0) (all-all-in keep qs (h .1))
+all-all-in keep (q ∷ qs) h = and-from (keep q) (all-in keep qs) (h .0) (all-all-in keep qs (h .1))
 
 module _ {W : Type 0} where
+  -- the states of a rule that is kept
+  pub kept-target : (keep : ℕ → Bool) (r : Transition W) → keeps keep r ≡ true → keep (r .target) ≡ true
+  kept-target keep r e = and-parts (keep (r .target)) (all-in keep (r .children)) e .0
+
+  pub kept-children : (keep : ℕ → Bool) (r : Transition W) → keeps keep r ≡ true → All (λ q. keep q ≡ true) (r .children)
+  kept-children keep r e = all-in-all keep (r .children) (and-parts (keep (r .target)) (all-in keep (r .children)) e .1)
+
+  pub kept-from : (keep : ℕ → Bool) (r : Transition W) → keep (r .target) ≡ true → All (λ q. keep q ≡ true) (r .children) → keeps keep r ≡ true
+  kept-from keep r t h = and-from (keep (r .target)) (all-in keep (r .children)) t (all-all-in keep (r .children) h)
+
   -- with one rule for each left side, a filter of the rules is a filter of what is found
   pub find-kept : (p : Transition W → Bool) (rs : List (Transition W)) (s : ℕ) (qs : List ℕ) → Single rs → find (kept-by p rs) s qs ≡ passing p (find rs s qs)
   find-kept p [] s qs h = refl
@@ -82,6 +93,7 @@ module _ {W : Type 0} where
           let d = step-some K (dropped keep A) s (runs K (dropped keep A) ts) a e in
           let k = kept-find (keeps keep) (A .rules) s (d .row .states) (d .rule) single (d .found) in
           ap (step K A s) (runs-dropped ts (d .row) (d .row-is)) ∙ ap (applied K (d .row .weight)) (k .0) ∙ ap (λ x. Some x) (sym (d .reached))
+
       pub runs-dropped : (ts : Row) (b : Ats W) → runs K (dropped keep A) ts ≡ Some b → runs K A ts ≡ Some b
       runs-dropped none b e = e
       runs-dropped (t ▹ ts) b e =

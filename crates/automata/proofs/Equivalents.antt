@@ -1,26 +1,20 @@
 -- Equivalence of states up to a factor is an equivalence relation and a congruence.
-use mathlib.Core.Path.{_≡_, refl, sym, ap, _∙_}
+use mathlib.Core.Path.{_≡_, sym, ap, refl, _∙_}
 use mathlib.Core.List.{List, _∷_, _++_}
 use Prim.Native.Nat.{ℕ}
-use native.Mathlib.Omega.{arith}
-use lib.ListN.{length}
 use Rattle.std.specs.shelf.Lists.{All}
-use Rattle.std.proofs.shelf.Elements.{all-weaker}
-use Rattle.std.proofs.shelf.Lists.{length-append}
 use Rattle.std.specs.declared.option.Option.{Option}
 use Rattle.std.specs.declared.option.Option.the-variants.{Some, None}
 use Rattle.kinds.specs.Weights.{Weights}
-use Rattle.automata.specs.Trees.{rank}
-use Rattle.automata.specs.Automata.{Transition, Automaton, find, Within, Sound}
+use Rattle.automata.specs.Automata.{Transition, Automaton, find, Sound}
 use Rattle.automata.specs.Runs.{applied}
-use Rattle.automata.specs.Contexts.{Context, hole, under, OverContext, fill, starting, value, scaled, Reachable, Sign, Live, Equivalent}
+use Rattle.automata.specs.Contexts.{Context, OverContext, value, scaled, Live, Equivalent}
 use Rattle.automata.specs.Pushing.{given}
 use Rattle.automata.specs.Equivalence.{Congruent, Equivalences}
+use Rattle.automata.specs.Marking.{Same-signs}
 use Rattle.automata.proofs.Groups.{cancel-left, right-injective, exchange, left-comm, inverse-times}
-use Rattle.automata.proofs.Finds.{find-symbol, find-children, find-all}
-use Rattle.automata.proofs.Plugs.{nested, over-nested, value-nested}
-use Rattle.automata.proofs.Lives.{reachable-fill}
-use Rattle.automata.proofs.Rows.{all-before, all-after, Access, access, place}
+use Rattle.automata.proofs.Plugs.{nested, over-nested}
+use Rattle.automata.proofs.SameSigns.{scaled-none, among, around, value-among, accesses, over-among, signs-accepting, signs-rule}
 
 module _ {W : Type 0} (K : Weights W) where
   pub scaled-one : (o : Option W) → scaled K (K .one) o ≡ o
@@ -63,42 +57,15 @@ module _ {W : Type 0} (K : Weights W) (A : Automaton W) where
       let v : K .times a w ≡ K .times b w = cc in
       right-injective K w a b v
 
-  -- the symbol s over trees that have the states before, the hole, and trees that have the states after
-  abbrev among : (s : ℕ) (before after : List ℕ) → Access K A before → Access K A after → Context
-  among s before after i j = under s (i .row) hole (j .row)
+  pub equivalent-signs : (a : W) (p q : ℕ) → Equivalent K A a p q → Same-signs K A p q
+  equivalent-signs a p q e c o = ((λ h. scaled-none K a (value K A c q) (sym (e c o) ∙ h)), (λ h. e c o ∙ ap (scaled K a) h))
 
-  -- the run weight of those trees
-  abbrev around : (before after : List ℕ) → Access K A before → Access K A after → W
-  around before after i j = K .times (i .weight) (K .times (K .one) (j .weight))
-
-  fill-among : (s : ℕ) (before after : List ℕ) (i : Access K A before) (j : Access K A after) (p : ℕ)
-      → fill K A (among s before after i j) (starting K p) ≡ applied K (around before after i j) (find (A .rules) s (before ++ p ∷ after))
-  fill-among s before after i j p =
-      place K A s (i .row) (j .row) (record { states = before; weight = i .weight }) (record { states = after; weight = j .weight }) (record { state = p; weight = K .one }) (i .runs-to) (j .runs-to)
-
-  value-among : (c : Context) (s : ℕ) (before after : List ℕ) (i : Access K A before) (j : Access K A after) (p : ℕ)
-      → value K A (nested c (among s before after i j)) p ≡ given K A c (applied K (around before after i j) (find (A .rules) s (before ++ p ∷ after)))
-  value-among c s before after i j p = value-nested K A c (among s before after i j) p ∙ ap (given K A c) (fill-among s before after i j p)
-
-  over-among : Sound A → (s : ℕ) (before after : List ℕ) (i : Access K A before) (j : Access K A after) (p : ℕ) (r : Transition W) → find (A .rules) s (before ++ p ∷ after) ≡ Some r → OverContext (A .ranks) (among s before after i j)
-  over-among sound s before after i j p r e =
-      let w : Within (A .ranks) (A .states) r = find-all (Within (A .ranks) (A .states)) (A .rules) s (before ++ p ∷ after) r (sound .within) e in
-      let x : r .symbol ≡ s = find-symbol (A .rules) s (before ++ p ∷ after) r e in
-      let y : r .children ≡ before ++ p ∷ after = find-children (A .rules) s (before ++ p ∷ after) r e in
-      let z : length (before ++ p ∷ after) ≡ rank (A .ranks) s = ap length (sym y) ∙ w .children-rank ∙ ap (rank (A .ranks)) x in
-      let m = i .as-many in
-      let n = j .as-many in
-      (rw x at (w .symbol-within), omega (arith, simp length-append at z), i .over, tt, j .over)
+  pub alike-accepting : (a : W) (p q : ℕ) → Equivalent K A a p q → A .accepting p ≡ A .accepting q
+  alike-accepting a p q e = signs-accepting K A p q (equivalent-signs a p q e)
 
   -- what a rule, and what is found for another left side, give above children of run weight w in every context
   abbrev Scales : W → W → Transition W → Option (Transition W) → Type 0
   Scales a w r o = (c : Context) → OverContext (A .ranks) c → scaled K (K .times w (r .weight)) (value K A c (r .target)) ≡ scaled K a (given K A c (applied K w o))
-
-  found-forced : (a w : W) (r : Transition W) (o : Option (Transition W)) → Sign K A (r .target) → Scales a w r o → (r′ : Transition W) × (o ≡ Some r′)
-  found-forced a w r None g h =
-      let x : scaled K (K .times w (r .weight)) (Some (g .weight)) ≡ None = ap (scaled K (K .times w (r .weight))) (sym (g .gives)) ∙ h (g .context) (g .over) in
-      let z : _≡_ {A = ℕ} 0 1 = cc in absurd (omega arith)
-  found-forced a w r (Some r′) g h = (r′, refl)
 
   targets-equivalent : (a w : W) (r r′ : Transition W) → Scales a w r (Some r′) → Equivalent K A (K .times a (K .times (r′ .weight) (K .inverse (r .weight)))) (r .target) (r′ .target)
   targets-equivalent a w r r′ h c o =
@@ -110,44 +77,23 @@ module _ {W : Type 0} (K : Weights W) (A : Automaton W) where
       ∙ scaled-twice K (K .inverse u) (K .times a v) x
       ∙ ap (λ y. scaled K y x) (forced K w (r .weight) a (r′ .weight))
 
-  pub sign-equivalent : (a : W) (p q : ℕ) → Equivalent K A a p q → Sign K A q → Sign K A p
-  sign-equivalent a p q e g = record {
-    context = g .context;
-    over = g .over;
-    weight = K .times a (g .weight);
-    gives = e (g .context) (g .over) ∙ ap (scaled K a) (g .gives);
-  }
-
-  congruent-among : Sound A → (s : ℕ) (before after : List ℕ) (i : Access K A before) (j : Access K A after) (a : W) (p q : ℕ) (r : Transition W) → find (A .rules) s (before ++ p ∷ after) ≡ Some r → Sign K A (r .target) → Reachable K A q → Equivalent K A a p q → Congruent K A a r s (before ++ q ∷ after)
-  congruent-among sound s before after i j a p q r e g reach h =
-      let w : W = around before after i j in
-      let d : Context = among s before after i j in
-      let over : OverContext (A .ranks) d = over-among sound s before after i j p r e in
-      let scales : Scales a w r (find (A .rules) s (before ++ q ∷ after)) = λ c o.
-          sym (value-among c s before after i j p ∙ ap (λ x. given K A c (applied K w x)) e)
-          ∙ h (nested c d) (over-nested (A .ranks) c d o over)
-          ∙ ap (scaled K a) (value-among c s before after i j q) in
-      let f = found-forced a w r (find (A .rules) s (before ++ q ∷ after)) g scales in
-      let r′ : Transition W = f .0 in
-      let b : W = K .times a (K .times (r′ .weight) (K .inverse (r .weight))) in
-      let same : Equivalent K A b (r .target) (r′ .target) = targets-equivalent a w r r′ (rw (f .1) at scales) in
-      record {
-        other = r′;
-        there = f .1;
-        live-target = record {
-          reachable = reachable-fill K A d q (record { state = r′ .target; weight = K .times w (r′ .weight) }) over reach (fill-among s before after i j q ∙ ap (applied K w) (f .1));
-          sign = sign-equivalent (K .inverse b) (r′ .target) (r .target) (symmetric b (r .target) (r′ .target) same) g;
-        };
-        equivalent = same;
-      }
-
   congruent : Sound A → (s : ℕ) (before after : List ℕ) (a : W) (p q : ℕ) (r : Transition W) → find (A .rules) s (before ++ p ∷ after) ≡ Some r → All (Live K A) (r .children) → Live K A (r .target) → Live K A q → Equivalent K A a p q → Congruent K A a r s (before ++ q ∷ after)
   congruent sound s before after a p q r e lives target l h =
-      let all : All (Live K A) (before ++ p ∷ after) = rw (find-children (A .rules) s (before ++ p ∷ after) r e) at lives in
-      let reach : All (Reachable K A) (before ++ p ∷ after) = all-weaker (Live K A) (Reachable K A) (λ x y. y .reachable) (before ++ p ∷ after) all in
-      let i : Access K A before = access K A before (all-before (Reachable K A) before (p ∷ after) reach) in
-      let j : Access K A after = access K A after (all-after (Reachable K A) before (p ∷ after) reach .1) in
-      congruent-among sound s before after i j a p q r e (target .sign) (l .reachable) h
+      let t = accesses K A s before after p r e lives in
+      let w : W = around K A before after (t .0) (t .1) in
+      let d : Context = among K A s before after (t .0) (t .1) in
+      let over : OverContext (A .ranks) d = over-among K A sound s before after (t .0) (t .1) p r e in
+      let scales : Scales a w r (find (A .rules) s (before ++ q ∷ after)) = λ c o.
+      sym (value-among K A c s before after (t .0) (t .1) p ∙ ap (λ x. given K A c (applied K w x)) e)
+      ∙ h (nested c d) (over-nested (A .ranks) c d o over)
+      ∙ ap (scaled K a) (value-among K A c s before after (t .0) (t .1) q) in
+      let f = signs-rule K A sound s before after p q r e lives (equivalent-signs a p q h) target l in
+      record {
+        other = f .0;
+        there = f .1;
+        live-target = f .2;
+        equivalent = targets-equivalent a w r (f .0) (rw (f .1) at scales);
+      }
 
   pub equivalences : Sound A → Equivalences K A
   equivalences sound = record { reflexive = reflexive; symmetric = symmetric; transitive = transitive; unique = unique; congruent = congruent sound }

@@ -1,20 +1,19 @@
 -- Two automata with a complete exploration weigh every tree alike.
 use mathlib.Core.Path.{_≡_, refl, sym, subst, _∙_}
-use mathlib.Core.Bool.{Bool, true, false, cond}
+use mathlib.Core.Bool.{true}
 use mathlib.Core.List.{[], _∷_}
 use Prim.Native.Nat.{ℕ}
-use native.Mathlib.Omega.{arith}
 use Rattle.std.specs.shelf.Lists.{All}
 use Rattle.std.specs.declared.option.Option.{Option}
 use Rattle.std.specs.declared.option.Option.the-variants.{Some, None}
 use Rattle.kinds.specs.Weights.{Weights}
 use Rattle.automata.specs.Trees.{Tree, Row, node, none, _▹_, Over, Overs}
 use Rattle.automata.specs.Automata.{Transition, Automaton, find}
-use Rattle.automata.specs.Runs.{At, Ats, run, runs, accepted, weight-of}
+use Rattle.automata.specs.Runs.{At, Ats, run, runs, weight-of}
 use Rattle.automata.specs.Contexts.{hole, Live}
 use Rattle.automata.specs.Comparing.{Exploration, Paired, ratios, Answered, Explored, Same-by-exploring}
 use Rattle.automata.proofs.Groups.{exchange, left-comm}
-use Rattle.automata.proofs.Steps.{beside-some, step-some}
+use Rattle.automata.proofs.Steps.{beside-some, step-some, accepted-some}
 use Rattle.automata.proofs.Lives.{children-live}
 use Rattle.automata.proofs.Signs.{weighs-live}
 
@@ -31,21 +30,6 @@ pub record Mets {W : Type 0} (K : Weights W) (B : Automaton W) (E : Exploration 
   pub runs-other : runs K B ts ≡ Some other
   pub paired : Paired E (a .states) (other .states)
   pub weighs : a .weight ≡ K .times (ratios K E (a .states) (other .states)) (other .weight)
-
--- a run to an accepting state, with the run weight w
-pub record Accepted {W : Type 0} (A : Automaton W) (o : Option (At W)) (w : W) : Type 0 where
-  pub run-is : At W
-  pub there : o ≡ Some run-is
-  pub accepts : A .accepting (run-is .state) ≡ true
-  pub weighs : run-is .weight ≡ w
-
-accepted-some : {W : Type 0} (A : Automaton W) (o : Option (At W)) (w : W) → accepted A o ≡ Some w → Accepted A o w
-accepted-some A None w e = let z : _≡_ {A = ℕ} 0 1 = cc in absurd (omega arith)
-accepted-some A (Some a) w e = at (A .accepting (a .state)) refl e
-  where
-    at : (b : Bool) → A .accepting (a .state) ≡ b → cond b (Some (a .weight)) None ≡ Some w → Accepted A (Some a) w
-    at true h k = record { run-is = a; there = refl; accepts = h; weighs = cc }
-    at false h k = let z : _≡_ {A = ℕ} 0 1 = cc in absurd (omega arith)
 
 -- A runs the tree to a live state
 abbrev pub LiveRun : {W : Type 0} → Weights W → Automaton W → Tree → Type 0

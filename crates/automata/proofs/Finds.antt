@@ -1,64 +1,44 @@
 -- Looking up a rule: what is found has the left side and whatever all rules have.
 use mathlib.Core.Path.{_≡_, refl, sym, ap, _∙_}
-use mathlib.Core.Bool.{Bool, true, false, _&&_, cond}
+use mathlib.Core.Bool.{Bool, true, false, cond}
 use mathlib.Core.List.{List, [], _∷_}
 use Prim.Native.Nat.{ℕ}
 use native.Mathlib.Omega.{arith}
-use lib.Dec.{T, eqb, eqb→eq, eqb-refl}
+use lib.Dec.{eqb}
+use lib.ListN.{length}
 use Rattle.std.specs.shelf.Lists.{All}
-use Rattle.std.specs.declared.option.Option.{Option}
-use Rattle.std.specs.declared.option.Option.the-variants.{Some, None}
-use Rattle.automata.specs.Automata.{Transition, same-list, fits-left, find}
-
-pub true-T : (b : Bool) → b ≡ true → T b
-true-T true e = tt
-true-T false e = let z : _≡_ {A = ℕ} 0 1 = cc in absurd (omega arith)
-
-pub T-true : (b : Bool) → T b → b ≡ true
-T-true true t = refl
-T-true false t = absurd t
-
-pub eqb-true : (m n : ℕ) → eqb m n ≡ true → m ≡ n
-eqb-true m n e = eqb→eq m n (true-T (eqb m n) e)
+use Rattle.std.proofs.shelf.Tests.{eqb-true, eq-eqb, and-parts, and-from}
+use Rattle.std.specs.declared.option.Option.the-variants.{Some}
+use Rattle.automata.specs.Trees.{rank}
+use Rattle.automata.specs.Automata.{Transition, Automaton, same-list, fits-left, find, Within, Sound}
 
 pub eqb-self : (n : ℕ) → eqb n n ≡ true
-eqb-self n = T-true (eqb n n) (eqb-refl n)
-
-pub and-left : (a b : Bool) → (a && b) ≡ true → a ≡ true
-and-left true b e = refl
-and-left false b e = e
-
-pub and-right : (a b : Bool) → (a && b) ≡ true → b ≡ true
-and-right true b e = e
-and-right false b e = let z : _≡_ {A = ℕ} 0 1 = cc in absurd (omega arith)
-
-pub and-both : (a b : Bool) → a ≡ true → b ≡ true → (a && b) ≡ true
-and-both true b p q = q
-and-both false b p q = p
+eqb-self n = eq-eqb n n refl
 
 pub same-list-true : (ps qs : List ℕ) → same-list ps qs ≡ true → ps ≡ qs
 same-list-true [] [] e = refl
 same-list-true [] (q ∷ qs) e = let z : _≡_ {A = ℕ} 0 1 = cc in absurd (omega arith)
 same-list-true (p ∷ ps) [] e = let z : _≡_ {A = ℕ} 0 1 = cc in absurd (omega arith)
 same-list-true (p ∷ ps) (q ∷ qs) e =
-    let h : p ≡ q = eqb-true p q (and-left (eqb p q) (same-list ps qs) e) in
-    let t : ps ≡ qs = same-list-true ps qs (and-right (eqb p q) (same-list ps qs) e) in
+    let h = and-parts (eqb p q) (same-list ps qs) e in
+    let i : p ≡ q = eqb-true p q (h .0) in
+    let j : ps ≡ qs = same-list-true ps qs (h .1) in
     cc
 
 pub same-list-self : (qs : List ℕ) → same-list qs qs ≡ true
 same-list-self [] = refl
-same-list-self (q ∷ qs) = and-both (eqb q q) (same-list qs qs) (eqb-self q) (same-list-self qs)
+same-list-self (q ∷ qs) = and-from (eqb q q) (same-list qs qs) (eqb-self q) (same-list-self qs)
 
 module _ {W : Type 0} where
   -- the left side of r is s(qs)
   pub fits-symbol : (r : Transition W) (s : ℕ) (qs : List ℕ) → fits-left r s qs ≡ true → r .symbol ≡ s
-  fits-symbol r s qs e = eqb-true (r .symbol) s (and-left (eqb (r .symbol) s) (same-list (r .children) qs) e)
+  fits-symbol r s qs e = eqb-true (r .symbol) s (and-parts (eqb (r .symbol) s) (same-list (r .children) qs) e .0)
 
   pub fits-children : (r : Transition W) (s : ℕ) (qs : List ℕ) → fits-left r s qs ≡ true → r .children ≡ qs
-  fits-children r s qs e = same-list-true (r .children) qs (and-right (eqb (r .symbol) s) (same-list (r .children) qs) e)
+  fits-children r s qs e = same-list-true (r .children) qs (and-parts (eqb (r .symbol) s) (same-list (r .children) qs) e .1)
 
   pub fits-itself : (r : Transition W) → fits-left r (r .symbol) (r .children) ≡ true
-  fits-itself r = and-both (eqb (r .symbol) (r .symbol)) (same-list (r .children) (r .children)) (eqb-self (r .symbol)) (same-list-self (r .children))
+  fits-itself r = and-from (eqb (r .symbol) (r .symbol)) (same-list (r .children) (r .children)) (eqb-self (r .symbol)) (same-list-self (r .children))
 
   -- what is found has the left side that was looked for
   pub find-fits : (rs : List (Transition W)) (s : ℕ) (qs : List ℕ) (r : Transition W) → find rs s qs ≡ Some r → fits-left r s qs ≡ true
@@ -83,3 +63,9 @@ module _ {W : Type 0} where
       at : (b : Bool) → cond b (Some x) (find rs s qs) ≡ Some r → (find rs s qs ≡ Some r → P r) → P r
       at true k ih = let i : x ≡ r = cc in rw i at (all .0)
       at false k ih = ih k
+
+  -- a left side that is found has as many states as its symbol's rank
+  pub find-rank : (A : Automaton W) → Sound A → (s : ℕ) (qs : List ℕ) (r : Transition W) → find (A .rules) s qs ≡ Some r → length qs ≡ rank (A .ranks) s
+  find-rank A sound s qs r e =
+      let w : Within (A .ranks) (A .states) r = find-all (Within (A .ranks) (A .states)) (A .rules) s qs r (sound .within) e in
+      ap length (sym (find-children (A .rules) s qs r e)) ∙ w .children-rank ∙ ap (rank (A .ranks)) (find-symbol (A .rules) s qs r e)

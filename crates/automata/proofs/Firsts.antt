@@ -90,6 +90,7 @@ module _ {W : Type 0} where
           let z : _≡_ {A = ℕ} 0 1 = cc in
           absurd (omega arith)
       later false y f k = k
+
       at : (b : Bool) → fits-left (g r) s qs ≡ b → cond b (Some (g r)) (find (map g rs) s qs) ≡ Some x → (find (map g rs) s qs ≡ Some x → Source g rs s qs x) → Source g (r ∷ rs) s qs x
       at true f k ih = record { rule = r; comes = cc; itself = rw (fits-itself r); fits = f }
       at false f k ih =

@@ -1,7 +1,7 @@
 -- What the laws of a kind give: the unit on the right, cancelling, inverses of one and of products, and deciding equality.
-use mathlib.Core.Path.{_≡_, refl, sym, ap, _∙_}
+use mathlib.Core.Path.{_≡_, sym, ap, _∙_}
 use mathlib.Core.HLevel.{Discrete}
-use lib.IntN.{ℤ, ℤ-discrete}
+use lib.IntN.{ℤ-discrete}
 use Rattle.kinds.specs.Weights.{Weights}
 
 module _ {W : Type 0} (K : Weights W) where

@@ -4,6 +4,7 @@ pub mod Plugs
 pub mod Steps
 pub mod Lives
 pub mod Rows
+pub mod SameSigns
 pub mod Equivalents
 pub mod Pushes
 pub mod Places
@@ -16,7 +17,10 @@ pub mod Signs
 pub mod Pigeons
 pub mod Bounds
 pub mod Reduces
-pub mod Examples
+pub mod FourStates
+pub mod FourMarks
+pub mod FourGroups
+pub mod Chains
 pub mod Witnesses
 pub mod Explores
 pub mod Simulations

@@ -1,5 +1,6 @@
 -- What leads to a live state is live: contexts and rules keep states reachable upwards and signs of life downwards.
 use mathlib.Core.Path.{_≡_, refl, sym, ap, ap₂, _∙_}
+use mathlib.Core.Bool.{true, cond}
 use mathlib.Core.List.{List, []}
 use Prim.Native.Nat.{ℕ, _+_, _<_}
 use native.Mathlib.Omega.{arith}
@@ -38,6 +39,10 @@ over-plug ranks (under s before c after) t h k =
     (h .0, e, over-joined ranks before (plug c t ▹ after) (h .2) (over-plug ranks c t (h .3) k, h .4))
 
 module _ {W : Type 0} (K : Weights W) (A : Automaton W) where
+  -- the hole is a sign of life of an accepting state
+  pub sign-accepting : (q : ℕ) → A .accepting q ≡ true → Sign K A q
+  sign-accepting q e = record { context = hole; over = tt; weight = K .one; gives = ap (λ b. cond b (Some (K .one)) None) e }
+
   -- a context takes a reachable state to a reachable one
   pub reachable-fill : (c : Context) (p : ℕ) (a : At W) → OverContext (A .ranks) c → Reachable K A p → fill K A c (starting K p) ≡ Some a → Reachable K A (a .state)
   reachable-fill c p a h r e = record {
@@ -88,14 +93,14 @@ module _ {W : Type 0} (K : Weights W) (A : Automaton W) where
       let size-is : size before + 1 + size ts ≡ rank (A .ranks) s = omega arith in
       let whole : ahead K A before (beside K (run K A t) (runs K A ts)) ≡ Some c = sym (runs-joined K A before (t ▹ ts)) ∙ k in
       let split : ahead K A before (beside K (Some (p .first)) (Some (p .rest))) ≡ Some c =
-          ap₂ (λ x y. ahead K A before (beside K x y)) (sym (p .first-is)) (sym (p .rest-is)) ∙ whole in
+      ap₂ (λ x y. ahead K A before (beside K x y)) (sym (p .first-is)) (sym (p .rest-is)) ∙ whole in
       let head : Live K A (p .first .state) = record {
         reachable = record { tree = t; over = v .0; weight = p .first .weight; runs-to = p .first-is };
         sign = place-sign s before ts (p .first) (p .rest) c r (h, size-is, o, tt, v .1) (p .rest-is) split f g;
       } in
       let again = joined-assoc before (t ▹ none) ts in
       let tail : All (Live K A) (p .rest .states) =
-          rest-live s (joined before (t ▹ none)) ts (p .rest) c r h (ap size again ∙ n) (over-joined (A .ranks) before (t ▹ none) o (v .0, tt)) (v .1) (p .rest-is) (ap (runs K A) again ∙ k) f g in
+      rest-live s (joined before (t ▹ none)) ts (p .rest) c r h (ap size again ∙ n) (over-joined (A .ranks) before (t ▹ none) o (v .0, tt)) (v .1) (p .rest-is) (ap (runs K A) again ∙ k) f g in
       rw (p .both) (head, tail)
 
   -- the children of a rule to a state with a sign of life are live, if trees run to them

@@ -8,7 +8,7 @@ use native.Mathlib.Omega.{arith}
 use lib.Dec.{eqb}
 use Rattle.std.specs.shelf.Lists.{All}
 use Rattle.std.proofs.shelf.Lists.{length-map}
-use Rattle.std.proofs.shelf.Tests.{cases-eq, or-left, or-right}
+use Rattle.std.proofs.shelf.Tests.{eqb-true, cases-eq, and-parts, or-left, or-right}
 use Rattle.std.proofs.shelf.Elements.{all-weaker, all-map, kept-by-passes}
 use Rattle.std.specs.declared.option.Option.{Option}
 use Rattle.std.specs.declared.option.Option.the-variants.{Some, None}
@@ -17,12 +17,11 @@ use Rattle.automata.specs.Trees.{Tree, Row, node, none, _▹_}
 use Rattle.automata.specs.Automata.{Transition, Automaton, find, Within, Sound}
 use Rattle.automata.specs.Runs.{At, Ats, beside, applied, step, run, runs, accepted, weight-of}
 use Rattle.automata.specs.Pushing.{reweighed, pushed, gained}
-use Rattle.automata.specs.Merging.{all-in, keeps, dropped, Grouping, relabelled, some-below, merged, Admissible, Merging}
-use Rattle.automata.proofs.Groups.{unit-right}
-use Rattle.automata.proofs.Finds.{eqb-true, eqb-self, and-left, and-right, and-both}
+use Rattle.automata.specs.Merging.{keeps, dropped, Grouping, relabelled, some-below, merged, Admissible, Merging}
+use Rattle.automata.proofs.Finds.{eqb-self}
 use Rattle.automata.proofs.Steps.{run-all, runs-all}
-use Rattle.automata.proofs.Pushes.{changed, find-reweighed, run-gains}
-use Rattle.automata.proofs.Drops.{all-in-all, all-all-in, kept-whole, all-kept-with}
+use Rattle.automata.proofs.Pushes.{changed, find-reweighed, run-gains, gained-accepted}
+use Rattle.automata.proofs.Drops.{kept-target, kept-children, kept-from, kept-whole, all-kept-with}
 use Rattle.automata.proofs.Firsts.{single-firsts, all-firsts}
 use Rattle.automata.proofs.Swaps.{Members, applied-merged}
 
@@ -76,11 +75,9 @@ module _ {W : Type 0} (K : Weights W) (A : Automaton W) (G : Grouping W) (sound 
           let p : ℕ → Bool = λ x. G .member x && (eqb (G .class x) (G .class q) && A .accepting x) in
           let g = below-some (A .states) p f in
           let x = g .0 in
-          let i = and-left (G .member x) (eqb (G .class x) (G .class q) && A .accepting x) (g .2) in
-          let j = and-right (G .member x) (eqb (G .class x) (G .class q) && A .accepting x) (g .2) in
-          let k = eqb-true (G .class x) (G .class q) (and-left (eqb (G .class x) (G .class q)) (A .accepting x) j) in
-          let l = and-right (eqb (G .class x) (G .class q)) (A .accepting x) j in
-          sym l ∙ h .acceptance x q i m k ∙ e
+          let i = and-parts (G .member x) (eqb (G .class x) (G .class q) && A .accepting x) (g .2) in
+          let j = and-parts (eqb (G .class x) (G .class q)) (A .accepting x) (i .1) in
+          sym (j .1) ∙ h .acceptance x q (i .0) m (eqb-true (G .class x) (G .class q) (j .0)) ∙ e
       at false false e f = refl
 
   classed-beside : (o : Option (At W)) (p : Option (Ats W)) → beside K (classed (G .class) o) (classed-row (G .class) p) ≡ classed-row (G .class) (beside K o p)
@@ -102,7 +99,7 @@ module _ {W : Type 0} (K : Weights W) (A : Automaton W) (G : Grouping W) (sound 
       ∙ ap (λ o. classed (G .class) (applied K (b .weight) o)) (sym (find-reweighed K (G .factor) rules s (b .states)))
 
   kept-targets : All (λ r. G .member (r .target) ≡ true) (dropped (G .member) A .rules)
-  kept-targets = all-weaker (λ r. keeps (G .member) r ≡ true) (λ r. G .member (r .target) ≡ true) (λ r e. and-left (G .member (r .target)) (all-in (G .member) (r .children)) e) (dropped (G .member) A .rules) (kept-by-passes (keeps (G .member)) (A .rules))
+  kept-targets = all-weaker (λ r. keeps (G .member) r ≡ true) (λ r. G .member (r .target) ≡ true) (kept-target (G .member)) (dropped (G .member) A .rules) (kept-by-passes (keeps (G .member)) (A .rules))
 
   pushed-targets : All (λ r. G .member (r .target) ≡ true) (members-pushed K G A .rules)
   pushed-targets = all-map (λ r. G .member (r .target) ≡ true) (reweighed K (G .factor)) (dropped (G .member) A .rules) kept-targets
@@ -113,6 +110,7 @@ module _ {W : Type 0} (K : Weights W) (A : Automaton W) (G : Grouping W) (sound 
     run-merged (node s ts) =
         ap (step K (merged K G A) s) (runs-merged ts)
         ∙ step-merged s (runs K (members-pushed K G A) ts) (runs-all K (members-pushed K G A) (λ q. G .member q ≡ true) pushed-targets ts)
+
     pub runs-merged : (ts : Row) → runs K (merged K G A) ts ≡ classed-row (G .class) (runs K (members-pushed K G A) ts)
     runs-merged none = refl
     runs-merged (t ▹ ts) =
@@ -122,12 +120,8 @@ module _ {W : Type 0} (K : Weights W) (A : Automaton W) (G : Grouping W) (sound 
   merged-accepted : (o : Option (At W)) → ((a : At W) → o ≡ Some a → G .member (a .state) ≡ true) → accepted (dropped (G .member) A) o ≡ accepted (merged K G A) (classed (G .class) (gained K (G .factor) o))
   merged-accepted None m = refl
   merged-accepted (Some a) m =
-      at (A .accepting (a .state)) refl
+      gained-accepted K (G .factor) (dropped (G .member) A) (Some a) (λ b e. h .accepting-one (b .state) (m b e))
       ∙ ap (λ b. cond b (Some (K .times (a .weight) (G .factor (a .state)))) None) (sym (merged-accepting (a .state) (m a refl)))
-    where
-      at : (b : Bool) → A .accepting (a .state) ≡ b → cond b (Some (a .weight)) None ≡ cond b (Some (K .times (a .weight) (G .factor (a .state)))) None
-      at true e = ap (λ x. Some x) (sym (ap (K .times (a .weight)) (h .accepting-one (a .state) (m a refl) e) ∙ unit-right K (a .weight)))
-      at false e = refl
 
   pub merged-weight : (t : Tree) → weight-of K (dropped (G .member) A) t ≡ weight-of K (merged K G A) t
   merged-weight t =
@@ -137,12 +131,11 @@ module _ {W : Type 0} (K : Weights W) (A : Automaton W) (G : Grouping W) (sound 
 
   relabelled-within : (r : Transition W) → Within (A .ranks) (A .states) r → keeps (G .member) r ≡ true → Within (A .ranks) (G .count) (relabelled K G r)
   relabelled-within r w e =
-      let children = all-in-all (G .member) (r .children) (and-right (G .member (r .target)) (all-in (G .member) (r .children)) e) in
       record {
         symbol-within = w .symbol-within;
         children-rank = length-map (r .children) (G .class) ∙ w .children-rank;
-        children-within = all-map (λ c. c < G .count) (G .class) (r .children) (all-weaker (λ q. G .member q ≡ true) (λ q. G .class q < G .count) (h .class-within) (r .children) children);
-        target-within = h .class-within (r .target) (and-left (G .member (r .target)) (all-in (G .member) (r .children)) e);
+        children-within = all-map (λ c. c < G .count) (G .class) (r .children) (all-weaker (λ q. G .member q ≡ true) (λ q. G .class q < G .count) (h .class-within) (r .children) (kept-children (G .member) r e));
+        target-within = h .class-within (r .target) (kept-target (G .member) r e);
       }
 
   pub merged-sound : Sound (merged K G A)
@@ -150,7 +143,7 @@ module _ {W : Type 0} (K : Weights W) (A : Automaton W) (G : Grouping W) (sound 
       let P = Within {W = W} (A .ranks) (G .count) in
       let kept = dropped (G .member) A .rules in
       let all : All (λ r. P (relabelled K G r)) kept =
-          all-kept-with (keeps (G .member)) (Within (A .ranks) (A .states)) (λ r. P (relabelled K G r)) relabelled-within (A .rules) (sound .within) in
+      all-kept-with (keeps (G .member)) (Within (A .ranks) (A .states)) (λ r. P (relabelled K G r)) relabelled-within (A .rules) (sound .within) in
       record {
         within = all-firsts P (map (relabelled K G) kept) (all-map P (relabelled K G) kept all);
         single = single-firsts (map (relabelled K G) kept);
@@ -162,7 +155,7 @@ module _ {W : Type 0} (K : Weights W) (A : Automaton W) (G : Grouping W) (sound 
     where
       kept : (r : Transition W) → Within (A .ranks) (A .states) r → keeps (G .member) r ≡ true
       kept r w =
-          and-both (G .member (r .target)) (all-in (G .member) (r .children)) (m (r .target) (w .target-within)) (all-all-in (G .member) (r .children) (all-weaker (λ q. q < A .states) (λ q. G .member q ≡ true) m (r .children) (w .children-within)))
+          kept-from (G .member) r (m (r .target) (w .target-within)) (all-weaker (λ q. q < A .states) (λ q. G .member q ≡ true) m (r .children) (w .children-within))
 
   whole-weight : ((q : ℕ) → q < A .states → G .member q ≡ true) → (t : Tree) → weight-of K A t ≡ weight-of K (dropped (G .member) A) t
   whole-weight m t = ap (λ rs. weight-of K (record { ranks = A .ranks; states = A .states; accepting = A .accepting; rules = rs }) t) (sym (nothing-dropped m))

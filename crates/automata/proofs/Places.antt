@@ -37,7 +37,7 @@ module _ {W : Type 0} (K : Weights W) where
   shift-forced w v a x y =
       let i : K .times a (K .times v (K .inverse w)) ≡ K .times (K .inverse w) (K .times a v) = ap (K .times a) (K .comm v (K .inverse w)) ∙ left-comm K a (K .inverse w) v in
       let j : K .times w (K .times (K .times a (K .times v (K .inverse w))) x) ≡ K .times a (K .times v x) =
-          ap (λ z. K .times w (K .times z x)) i ∙ ap (K .times w) (K .assoc (K .inverse w) (K .times a v) x) ∙ redo K w (K .times (K .times a v) x) ∙ K .assoc a v x in
+      ap (λ z. K .times w (K .times z x)) i ∙ ap (K .times w) (K .assoc (K .inverse w) (K .times a v) x) ∙ redo K w (K .times (K .times a v) x) ∙ K .assoc a v x in
       ap₂ (K .times) j (inverse-times K a y)
       ∙ exchange K a (K .times v x) (K .inverse a) (K .inverse y)
       ∙ ap (λ z. K .times z (K .times (K .times v x) (K .inverse y))) (K .cancel a)
@@ -47,5 +47,5 @@ module _ {W : Type 0} (K : Weights W) where
   pub even-forced : (f : ℕ → W) (a : W) (r r′ : Transition W) (xs ys : List ℕ) (p q : ℕ) → r .children ≡ xs ++ p ∷ ys → r′ .children ≡ xs ++ q ∷ ys → f p ≡ K .times a (f q) → f (r .target) ≡ K .times (K .times a (K .times (r′ .weight) (K .inverse (r .weight)))) (f (r′ .target)) → reweighed K f r .weight ≡ reweighed K f r′ .weight
   even-forced f a r r′ xs ys p q e k i j =
       let even : shifted f r p ≡ shifted f r′ q =
-          ap₂ (λ x y. K .times (K .times (r .weight) x) (K .inverse y)) j i ∙ shift-forced (r .weight) (r′ .weight) a (f (r′ .target)) (f q) in
+      ap₂ (λ x y. K .times (K .times (r .weight) x) (K .inverse y)) j i ∙ shift-forced (r .weight) (r′ .weight) a (f (r′ .target)) (f q) in
       even-whole f r r′ xs ys p q e k even

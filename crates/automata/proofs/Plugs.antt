@@ -6,7 +6,7 @@ use Prim.Native.Nat.{ℕ}
 use Rattle.std.specs.declared.option.Option.{Option}
 use Rattle.std.specs.declared.option.Option.the-variants.{Some, None}
 use Rattle.kinds.specs.Weights.{Weights}
-use Rattle.automata.specs.Trees.{Tree, Row, node, none, _▹_, joined, Over, Overs}
+use Rattle.automata.specs.Trees.{Tree, Row, none, _▹_, joined}
 use Rattle.automata.specs.Automata.{Transition, Automaton, find}
 use Rattle.automata.specs.Runs.{At, Ats, beside, applied, step, run, runs, accepted, weight-of}
 use Rattle.automata.specs.Contexts.{Context, hole, under, OverContext, plug, ahead, fill, starting, value, scaled}

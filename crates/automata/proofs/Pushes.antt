@@ -76,13 +76,15 @@ module _ {W : Type 0} (K : Weights W) (f : ℕ → W) where
     mutual
       pub run-gains : (t : Tree) → run K (pushed K f A) t ≡ gained K f (run K A t)
       run-gains (node s ts) = ap (step K (pushed K f A) s) (runs-gain ts) ∙ gained-step s (runs K A ts)
+
       pub runs-gain : (ts : Row) → runs K (pushed K f A) ts ≡ gained-row K f (runs K A ts)
       runs-gain none = ap (λ x. Some (record { states = []; weight = x })) (sym (K .unit (K .one)))
       runs-gain (t ▹ ts) = ap₂ (beside K) (run-gains t) (runs-gain ts) ∙ gained-beside (run K A t) (runs K A ts)
 
-    gained-accepted : ((q : ℕ) → A .accepting q ≡ true → f q ≡ K .one) → (o : Option (At W)) → accepted A o ≡ accepted (pushed K f A) (gained K f o)
-    gained-accepted one None = refl
-    gained-accepted one (Some a) = at (A .accepting (a .state)) (one (a .state))
+    -- a run weighs the same after the push if its state, where it accepts, has the factor one
+    pub gained-accepted : (o : Option (At W)) → ((a : At W) → o ≡ Some a → A .accepting (a .state) ≡ true → f (a .state) ≡ K .one) → accepted A o ≡ accepted (pushed K f A) (gained K f o)
+    gained-accepted None one = refl
+    gained-accepted (Some a) one = at (A .accepting (a .state)) (one a refl)
       where
         at : (b : Bool) → (b ≡ true → f (a .state) ≡ K .one) → cond b (Some (a .weight)) None ≡ cond b (Some (K .times (a .weight) (f (a .state)))) None
         at true h = ap (λ x. Some x) (sym (ap (K .times (a .weight)) (h refl) ∙ unit-right K (a .weight)))
@@ -91,7 +93,7 @@ module _ {W : Type 0} (K : Weights W) (f : ℕ → W) where
     pub pushing-alike : ((q : ℕ) → A .accepting q ≡ true → f q ≡ K .one) → Alike K A (pushed K f A)
     pushing-alike one = record {
       alphabet = refl;
-      weights = λ t o. gained-accepted one (run K A t) ∙ ap (accepted (pushed K f A)) (sym (run-gains t));
+      weights = λ t o. gained-accepted (run K A t) (λ a e. one (a .state)) ∙ ap (accepted (pushed K f A)) (sym (run-gains t));
     }
 
 pub pushing : {W : Type 0} (K : Weights W) (A : Automaton W) (f : ℕ → W) → Pushing K A f

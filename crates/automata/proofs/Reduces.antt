@@ -1,28 +1,27 @@
 -- Merging the classes of equivalent live states gives the smallest automaton that weighs every tree alike.
 use mathlib.Core.Path.{_≡_, refl, sym, ap, _∙_}
-use mathlib.Core.Bool.{Bool, true, false, cond}
+use mathlib.Core.Bool.{true}
 use mathlib.Core.List.{List, _∷_, _++_}
 use Prim.Native.Nat.{ℕ}
-use native.Mathlib.Omega.{arith}
 use Rattle.std.specs.shelf.Lists.{All}
 use Rattle.std.proofs.shelf.Elements.{all-weaker}
-use Rattle.std.specs.declared.option.Option.the-variants.{Some, None}
+use Rattle.std.specs.declared.option.Option.the-variants.{Some}
 use Rattle.kinds.specs.Weights.{Weights}
 use Rattle.automata.specs.Automata.{Transition, Automaton, find, Sound}
 use Rattle.automata.specs.Runs.{Alike}
-use Rattle.automata.specs.Contexts.{hole, plug, scaled, Live, Equivalent}
+use Rattle.automata.specs.Contexts.{plug, Live, Equivalent}
 use Rattle.automata.specs.Pushing.{gained}
-use Rattle.automata.specs.Merging.{all-in, keeps, dropped, Grouping, merged, Counterpart, Admissible}
+use Rattle.automata.specs.Merging.{keeps, dropped, Grouping, merged, Counterpart, Admissible}
 use Rattle.automata.specs.Equivalence.{Congruent}
 use Rattle.automata.specs.Minimality.{Reduced, By-equivalence, Quotients, Reducing}
 use Rattle.automata.proofs.Groups.{unit-right, cancel-left}
-use Rattle.automata.proofs.Finds.{and-left, and-right, find-children}
+use Rattle.automata.proofs.Finds.{find-children}
 use Rattle.automata.proofs.Lives.{over-plug, state-within}
 use Rattle.automata.proofs.Rows.{all-after}
-use Rattle.automata.proofs.Equivalents.{equivalences}
+use Rattle.automata.proofs.Equivalents.{alike-accepting, equivalences}
 use Rattle.automata.proofs.Pushes.{run-gains}
 use Rattle.automata.proofs.Places.{even-forced}
-use Rattle.automata.proofs.Drops.{all-in-all}
+use Rattle.automata.proofs.Drops.{kept-target, kept-children}
 use Rattle.automata.proofs.Trims.{trimming, run-stays}
 use Rattle.automata.proofs.Merges.{classed, run-merged, merging}
 use Rattle.automata.proofs.Signs.{weighs-sign, weighs-live}
@@ -33,17 +32,6 @@ module _ {W : Type 0} (K : Weights W) where
   quotient-whole : (x y b : W) → K .times x (K .inverse y) ≡ b → x ≡ K .times b y
   quotient-whole x y b e =
       sym (ap (λ z. K .times z y) (sym e) ∙ K .assoc x (K .inverse y) y ∙ ap (K .times x) (cancel-left K y) ∙ unit-right K x)
-
-module _ {W : Type 0} (K : Weights W) (A : Automaton W) where
-  -- equivalent states accept alike
-  pub alike-accepting : (a : W) (p q : ℕ) → Equivalent K A a p q → A .accepting p ≡ A .accepting q
-  alike-accepting a p q e = at (A .accepting p) (A .accepting q) (e hole tt)
-    where
-      at : (b c : Bool) → cond b (Some (K .one)) None ≡ scaled K a (cond c (Some (K .one)) None) → b ≡ c
-      at true true h = refl
-      at true false h = let z : _≡_ {A = ℕ} 0 1 = cc in absurd (omega arith)
-      at false true h = let z : _≡_ {A = ℕ} 0 1 = cc in absurd (omega arith)
-      at false false h = refl
 
 module _ {W : Type 0} (K : Weights W) (A : Automaton W) (G : Grouping W) (sound : Sound A) (by : By-equivalence K A G) where
   is-live : (q : ℕ) → G .member q ≡ true → Live K A q
@@ -58,15 +46,15 @@ module _ {W : Type 0} (K : Weights W) (A : Automaton W) (G : Grouping W) (sound 
     class-swaps : (s : ℕ) (before after : List ℕ) (p q : ℕ) (r : Transition W) → find (A .rules) s (before ++ p ∷ after) ≡ Some r → keeps (G .member) r ≡ true → G .member q ≡ true → G .class p ≡ G .class q → Counterpart K A G r s (before ++ q ∷ after)
     class-swaps s before after p q r e k n c =
         let f : ℕ → W = G .factor in
-        let target = and-left (G .member (r .target)) (all-in (G .member) (r .children)) k in
-        let members : All (λ x. G .member x ≡ true) (r .children) = all-in-all (G .member) (r .children) (and-right (G .member (r .target)) (all-in (G .member) (r .children)) k) in
+        let target = kept-target (G .member) r k in
+        let members = kept-children (G .member) r k in
         let i : r .children ≡ before ++ p ∷ after = find-children (A .rules) s (before ++ p ∷ after) r e in
         let m : G .member p ≡ true = all-after (λ x. G .member x ≡ true) before (p ∷ after) (rw i at members) .0 in
         let a : W = K .times (f p) (K .inverse (f q)) in
         let same : Equivalent K A a p q = h .quotient p q m n c in
         let lives : All (Live K A) (r .children) = all-weaker (λ x. G .member x ≡ true) (Live K A) is-live (r .children) members in
         let o : Congruent K A a r s (before ++ q ∷ after) =
-            equivalences K A sound .congruent s before after a p q r e lives (is-live (r .target) target) (is-live q n) same in
+        equivalences K A sound .congruent s before after a p q r e lives (is-live (r .target) target) (is-live q n) same in
         let r′ : Transition W = o .other in
         let b : W = K .times a (K .times (r′ .weight) (K .inverse (r .weight))) in
         let target′ : G .member (r′ .target) ≡ true = by .live-members (r′ .target) .1 (o .live-target) in
@@ -120,7 +108,7 @@ module _ {W : Type 0} (K : Weights W) (A : Automaton W) (G : Grouping W) (sound 
         let u = class-partner q m in
         let t = u .tree in
         weighs-live K (merged K G A) (g .context) t (G .class q) (u .second) (K .times (u .first) (g .weight)) (g .over) (u .over) (u .runs-second)
-            (sym (merged-alike .weights (plug (g .context) t) (over-plug (A .ranks) (g .context) t (g .over) (u .over))) ∙ weighs-sign K A t q (u .first) g (u .runs-first))
+        (sym (merged-alike .weights (plug (g .context) t) (over-plug (A .ranks) (g .context) t (g .over) (u .over))) ∙ weighs-sign K A t q (u .first) g (u .runs-first))
 
     class-apart : (p q : ℕ) → G .member p ≡ true → G .member q ≡ true → (a : W) → Equivalent K (merged K G A) a (G .class p) (G .class q) → G .class p ≡ G .class q
     class-apart p q m n a e =

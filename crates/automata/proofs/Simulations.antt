@@ -1,6 +1,6 @@
 -- A relation between runs that every rule with live states keeps is kept by every context that leads to a live state.
 use mathlib.Core.Path.{_≡_, refl, sym, ap, subst, _∙_}
-use mathlib.Core.Bool.{Bool, true, false, cond}
+use mathlib.Core.Bool.{true, cond}
 use mathlib.Core.List.{_∷_, _++_}
 use Prim.Native.Nat.{ℕ}
 use native.Mathlib.Omega.{arith}
@@ -11,10 +11,11 @@ use Rattle.kinds.specs.Weights.{Weights}
 use Rattle.automata.specs.Trees.{Row, _▹_, size, joined, rank}
 use Rattle.automata.specs.Automata.{Transition, Automaton, find}
 use Rattle.automata.specs.Runs.{At, Ats, beside, applied, step, run, runs, accepted}
-use Rattle.automata.specs.Contexts.{Context, hole, under, OverContext, ahead, fill, starting, value, Reachable, Sign, Live}
+use Rattle.automata.specs.Contexts.{Context, hole, under, OverContext, ahead, fill, starting, value, Reachable, Live}
 use Rattle.automata.proofs.Finds.{find-children}
 use Rattle.automata.proofs.Plugs.{runs-joined}
-use Rattle.automata.proofs.Lives.{size-joined, over-joined, reachable-fill, children-live}
+use Rattle.automata.proofs.Steps.{accepted-some}
+use Rattle.automata.proofs.Lives.{size-joined, over-joined, sign-accepting, reachable-fill, children-live}
 use Rattle.automata.proofs.Rows.{both, ahead-both, between, place, all-after}
 
 -- the run that a rule makes of x between b and d
@@ -63,9 +64,9 @@ module _ {W : Type 0} (K : Weights W) (A : Automaton W) where
       let size-is : size ts ≡ rank (A .ranks) s = omega arith in
       let row : Ats W = record { states = h .left .states ++ h .inner .state ∷ h .right .states; weight = between K (h .left) (record { state = h .inner .state; weight = x .weight }) (h .right) } in
       let runs-to : runs K A ts ≡ Some row =
-          runs-joined K A before (x .tree ▹ after)
-          ∙ ahead-both K A before (beside K (run K A (x .tree)) (runs K A after))
-          ∙ rw (h .left-is, x .runs-to, h .right-is) in
+      runs-joined K A before (x .tree ▹ after)
+      ∙ ahead-both K A before (beside K (run K A (x .tree)) (runs K A after))
+      ∙ rw (h .left-is, x .runs-to, h .right-is) in
       children-live K A s ts row (h .rule) (over .0) size-is (over-joined (A .ranks) before (x .tree ▹ after) (over .2) (x .over, over .4)) runs-to (h .found) (live .sign)
 
   -- every rule whose states are live keeps R: there is a rule for the other run, and the runs that the two make are related
@@ -98,17 +99,6 @@ module _ {W : Type 0} (K : Weights W) (A : Automaton W) where
         related = subst (λ x. R x (reached K (m .left) (n .answer) (m .right) (k .0))) (sym (m .whole)) (k .2);
       }
 
-  accepted-some : (o : Option (At W)) (w : W) → accepted A o ≡ Some w → (a : At W) × (o ≡ Some a) × (A .accepting (a .state) ≡ true) × (a .weight ≡ w)
-  accepted-some None w e = let z : _≡_ {A = ℕ} 0 1 = cc in absurd (omega arith)
-  accepted-some (Some a) w e = at (A .accepting (a .state)) refl e
-    where
-      at : (b : Bool) → A .accepting (a .state) ≡ b → cond b (Some (a .weight)) None ≡ Some w → (x : At W) × (Some a ≡ Some x) × (A .accepting (x .state) ≡ true) × (x .weight ≡ w)
-      at true h k = (a, refl, h, cc)
-      at false h k = let z : _≡_ {A = ℕ} 0 1 = cc in absurd (omega arith)
-
-  pub sign-accepting : (q : ℕ) → A .accepting q ≡ true → Sign K A q
-  sign-accepting q h = record { context = hole; over = tt; weight = K .one; gives = rw h }
-
   -- if one run gives a weight in a context and related states accept alike, then the other gives one, and the runs are related
   pub record Gives (R : At W → At W → Type 0) (w : W) (o : Option W) : Type 0 where
     pub this : At W
@@ -121,17 +111,17 @@ module _ {W : Type 0} (K : Weights W) (A : Automaton W) where
   pub value-simulated : (R : At W → At W → Type 0) → Kept R → ((x y : At W) → R x y → A .accepting (x .state) ≡ A .accepting (y .state)) → (c : Context) (p q : ℕ) (w : W) → OverContext (A .ranks) c → Reachable K A p → R (record { state = p; weight = K .one }) (record { state = q; weight = K .one })
       → value K A c p ≡ Some w → Gives R w (value K A c q)
   value-simulated R kept same c p q w over reach h e =
-      let f = accepted-some (fill K A c (starting K p)) w e in
-      let x : At W = f .0 in
-      let l : Live K A (x .state) = record { reachable = reachable-fill K A c p x over reach (f .1); sign = sign-accepting (x .state) (f .2) } in
-      let n : Answers R x (fill K A c (starting K q)) = simulated R kept c p q x over reach h (f .1) l in
+      let f = accepted-some A (fill K A c (starting K p)) w e in
+      let x : At W = f .run-is in
+      let l : Live K A (x .state) = record { reachable = reachable-fill K A c p x over reach (f .there); sign = sign-accepting K A (x .state) (f .accepts) } in
+      let n : Answers R x (fill K A c (starting K q)) = simulated R kept c p q x over reach h (f .there) l in
       let y : At W = n .answer in
-      let also : A .accepting (y .state) ≡ true = sym (same x y (n .related)) ∙ f .2 in
+      let also : A .accepting (y .state) ≡ true = sym (same x y (n .related)) ∙ f .accepts in
       record {
         this = x;
         other = y;
         related = n .related;
-        accepts = f .2;
-        this-weight = f .3;
+        accepts = f .accepts;
+        this-weight = f .weighs;
         other-gives = ap (accepted A) (n .there) ∙ ap (λ b. cond b (Some (y .weight)) None) also;
       }

@@ -1,5 +1,6 @@
--- What a run is made of: the parts of a row's run, and the rule that a step used; so a run's state has what all targets have.
+-- What a run is made of: the parts of a row's run, the rule that a step used, an accepting state; so a run's state has what all targets have.
 use mathlib.Core.Path.{_≡_, refl}
+use mathlib.Core.Bool.{Bool, true, false, cond}
 use mathlib.Core.List.{[], _∷_}
 use Prim.Native.Nat.{ℕ}
 use native.Mathlib.Omega.{arith}
@@ -9,7 +10,7 @@ use Rattle.std.specs.declared.option.Option.the-variants.{Some, None}
 use Rattle.kinds.specs.Weights.{Weights}
 use Rattle.automata.specs.Trees.{Tree, Row, node, none, _▹_}
 use Rattle.automata.specs.Automata.{Transition, Automaton, find}
-use Rattle.automata.specs.Runs.{At, Ats, beside, applied, step, run, runs}
+use Rattle.automata.specs.Runs.{At, Ats, beside, applied, step, run, runs, accepted}
 use Rattle.automata.proofs.Finds.{find-all}
 
 -- a run before the runs of a row are both there
@@ -27,6 +28,21 @@ pub record Stepped {W : Type 0} (K : Weights W) (A : Automaton W) (s : ℕ) (o :
   pub row-is : o ≡ Some row
   pub found : find (A .rules) s (row .states) ≡ Some rule
   pub reached : a ≡ record { state = rule .target; weight = K .times (row .weight) (rule .weight) }
+
+-- a run to an accepting state, with the run weight w
+pub record Accepted {W : Type 0} (A : Automaton W) (o : Option (At W)) (w : W) : Type 0 where
+  pub run-is : At W
+  pub there : o ≡ Some run-is
+  pub accepts : A .accepting (run-is .state) ≡ true
+  pub weighs : run-is .weight ≡ w
+
+pub accepted-some : {W : Type 0} (A : Automaton W) (o : Option (At W)) (w : W) → accepted A o ≡ Some w → Accepted A o w
+accepted-some A None w e = let z : _≡_ {A = ℕ} 0 1 = cc in absurd (omega arith)
+accepted-some A (Some a) w e = at (A .accepting (a .state)) refl e
+  where
+    at : (b : Bool) → A .accepting (a .state) ≡ b → cond b (Some (a .weight)) None ≡ Some w → Accepted A (Some a) w
+    at true h k = record { run-is = a; there = refl; accepts = h; weighs = cc }
+    at false h k = let z : _≡_ {A = ℕ} 0 1 = cc in absurd (omega arith)
 
 module _ {W : Type 0} (K : Weights W) where
   pub beside-some : (o : Option (At W)) (p : Option (Ats W)) (b : Ats W) → beside K o p ≡ Some b → Beside K o p b

@@ -12,10 +12,10 @@ use Rattle.std.specs.declared.option.Option.the-variants.{Some, None}
 use Rattle.kinds.specs.Weights.{Weights}
 use Rattle.automata.specs.Automata.{Transition, Automaton, fits-left, find, Sound}
 use Rattle.automata.specs.Runs.{applied}
-use Rattle.automata.specs.Merging.{all-in, keeps, dropped, Grouping, relabelled, merged, Counterpart, Admissible}
-use Rattle.automata.proofs.Finds.{and-left, and-right, and-both, fits-symbol, fits-children, fits-itself, find-fits, find-children}
+use Rattle.automata.specs.Merging.{keeps, dropped, Grouping, relabelled, merged, Counterpart, Admissible}
+use Rattle.automata.proofs.Finds.{fits-symbol, fits-children, fits-itself, find-fits, find-children}
 use Rattle.automata.proofs.Pushes.{changed}
-use Rattle.automata.proofs.Drops.{all-in-all, all-all-in, kept-find, find-passes}
+use Rattle.automata.proofs.Drops.{kept-target, kept-children, kept-from, kept-find, find-passes}
 use Rattle.automata.proofs.Firsts.{Source, find-firsts, single-kept, find-source, find-changed}
 
 -- all states of the list are members
@@ -25,7 +25,7 @@ Members G qs = All (λ q. G .member q ≡ true) qs
 module _ {W : Type 0} (K : Weights W) (A : Automaton W) (G : Grouping W) where
   -- a rule whose target and left side are members is kept
   pub keeps-rule : (s : ℕ) (qs : List ℕ) (r : Transition W) → find (A .rules) s qs ≡ Some r → G .member (r .target) ≡ true → Members G qs → keeps (G .member) r ≡ true
-  keeps-rule s qs r e t m = and-both (G .member (r .target)) (all-in (G .member) (r .children)) t (rw (find-children (A .rules) s qs r e) (all-all-in (G .member) qs m))
+  keeps-rule s qs r e t m = kept-from (G .member) r t (rw (find-children (A .rules) s qs r e) m)
 
   -- a counterpart of a counterpart
   counterpart-trans : (r : Transition W) (s : ℕ) (ps qs : List ℕ) (o : Counterpart K A G r s ps) → Counterpart K A G (o .other) s qs → Counterpart K A G r s qs
@@ -68,9 +68,7 @@ module _ {W : Type 0} (K : Weights W) (A : Automaton W) (G : Grouping W) where
           let k = kept-find (keeps (G .member)) (A .rules) (r .symbol) (r .children) r (sound .single) (o .itself) in
           let symbol : r .symbol ≡ s = fits-symbol (relabelled K G r) s (map (G .class) qs) (o .fits) in
           let there : find (A .rules) s (r .children) ≡ Some r = ap (λ y. find (A .rules) y (r .children)) (sym symbol) ∙ k .0 in
-          let target = and-left (G .member (r .target)) (all-in (G .member) (r .children)) (k .1) in
-          let children = all-in-all (G .member) (r .children) (and-right (G .member (r .target)) (all-in (G .member) (r .children)) (k .1)) in
-          swapped s [] (r .children) qs r there target tt children m (fits-children (relabelled K G r) s (map (G .class) qs) (o .fits))
+          swapped s [] (r .children) qs r there (kept-target (G .member) r (k .1)) tt (kept-children (G .member) r (k .1)) m (fits-children (relabelled K G r) s (map (G .class) qs) (o .fits))
 
       relabelled-fits : (s : ℕ) (qs : List ℕ) (r : Transition W) → fits-left r s qs ≡ true → fits-left (relabelled K G r) s (map (G .class) qs) ≡ true
       relabelled-fits s qs r e =

@@ -12,18 +12,14 @@ use Rattle.kinds.specs.Weights.{Weights}
 use Rattle.automata.specs.Trees.{Tree, Row, node, none, _▹_, Over, Overs}
 use Rattle.automata.specs.Automata.{Automaton, Sound}
 use Rattle.automata.specs.Runs.{At, Ats, beside, applied, step, run, runs, accepted, weight-of}
-use Rattle.automata.specs.Contexts.{hole, Sign, Live}
+use Rattle.automata.specs.Contexts.{Sign, Live}
 use Rattle.automata.specs.Merging.{keeps, dropped, Trimming}
 use Rattle.automata.proofs.Finds.{find-children}
 use Rattle.automata.proofs.Steps.{beside-some, step-some}
-use Rattle.automata.proofs.Lives.{children-live}
-use Rattle.automata.proofs.Drops.{all-all-in, find-passes, run-dropped}
+use Rattle.automata.proofs.Lives.{sign-accepting, children-live}
+use Rattle.automata.proofs.Drops.{kept-from, find-passes, run-dropped}
 
 module _ {W : Type 0} (K : Weights W) (A : Automaton W) where
-  -- an accepting state is a sign of its own life
-  pub sign-accepting : (q : ℕ) → A .accepting q ≡ true → Sign K A q
-  sign-accepting q e = record { context = hole; over = tt; weight = K .one; gives = ap (λ b. cond b (Some (K .one)) None) e }
-
   module _ (keep : ℕ → Bool) (sound : Sound A) (live : (q : ℕ) → Live K A q → keep q ≡ true) where
     -- a run to a state with a sign of life passes live states only
     mutual
@@ -38,12 +34,12 @@ module _ {W : Type 0} (K : Weights W) (A : Automaton W) where
             sign = sign;
           } in
           let children : All (Live K A) (d .row .states) = children-live K A s ts (d .row) r (o .0) (o .1) (o .2) (d .row-is) (d .found) sign in
-          let all = all-all-in keep (d .row .states) (all-weaker (Live K A) (λ q. keep q ≡ true) live (d .row .states) children) in
-          let c = find-children (A .rules) s (d .row .states) r (d .found) in
-          let kept : keeps keep r ≡ true = rw (c, all, live (r .target) target) in
+          let all : All (λ q. keep q ≡ true) (d .row .states) = all-weaker (Live K A) (λ q. keep q ≡ true) live (d .row .states) children in
+          let kept : keeps keep r ≡ true = kept-from keep r (live (r .target) target) (rw (find-children (A .rules) s (d .row .states) r (d .found)) all) in
           ap (step K (dropped keep A) s) (runs-stay ts (d .row) (o .2) (d .row-is) children)
           ∙ ap (applied K (d .row .weight)) (find-passes (keeps keep) (A .rules) s (d .row .states) r (sound .single) (d .found) kept)
           ∙ ap (λ x. Some x) (sym (d .reached))
+
       pub runs-stay : (ts : Row) (b : Ats W) → Overs (A .ranks) ts → runs K A ts ≡ Some b → All (Live K A) (b .states) → runs K (dropped keep A) ts ≡ Some b
       runs-stay none b o e h = e
       runs-stay (t ▹ ts) b o e h =
@@ -62,7 +58,7 @@ module _ {W : Type 0} (K : Weights W) (A : Automaton W) where
           where
             accepts : (b : Bool) → A .accepting (a .state) ≡ b → cond b (Some (a .weight)) None ≡ None
             accepts true h =
-                let stays = run-stays t a o e (sign-accepting (a .state) h) in
+                let stays = run-stays t a o e (sign-accepting K A (a .state) h) in
                 let z : _≡_ {A = ℕ} 0 1 = cc in
                 absurd (omega arith)
             accepts false h = refl

@@ -10,7 +10,7 @@ use Rattle.kinds.specs.Weights.{Weights}
 use Rattle.automata.specs.Trees.{Tree, Row, node, size, rank, Over, Overs}
 use Rattle.automata.specs.Automata.{Transition, Automaton, find}
 use Rattle.automata.specs.Runs.{At, Ats, run, runs, weight-of, Alike}
-use Rattle.automata.specs.Contexts.{Context, plug, Live, Sign}
+use Rattle.automata.specs.Contexts.{plug, Live, Sign}
 
 -- pairs of states found so far, each with the ratio of the first run weight to the second
 pub record Exploration (W : Type 0) : Type 0 where

@@ -8,3 +8,4 @@ pub mod Equivalence
 pub mod Marking
 pub mod Minimality
 pub mod Comparing
+pub mod Examples

@@ -1,12 +1,12 @@
 -- Telling states apart by marking pairs, in two rounds.
 use mathlib.Core.Path.{_≡_}
 use mathlib.Core.Bool.{Bool, true, false}
-use mathlib.Core.Logic.{_↔_, _⊎_}
+use mathlib.Core.Logic.{_↔_}
 use mathlib.Core.List.{List, _∷_, _++_}
 use Prim.Native.Nat.{ℕ}
 use Rattle.std.specs.declared.option.Option.the-variants.{Some, None}
 use Rattle.kinds.specs.Weights.{Weights}
-use Rattle.automata.specs.Automata.{Transition, Automaton, find, Sound}
+use Rattle.automata.specs.Automata.{Transition, Automaton, find}
 use Rattle.automata.specs.Contexts.{Context, OverContext, value, Live, Equivalent}
 use Rattle.automata.specs.Pushing.{reweighed}
 use Rattle.automata.specs.Merging.{keeps}
@@ -63,14 +63,22 @@ At-rest live marks adds = (p q : ℕ) → live p ≡ true → live q ≡ true �
 abbrev pub Same-signs : {W : Type 0} → Weights W → Automaton W → ℕ → ℕ → Type 0
 Same-signs K A p q = (c : Context) → OverContext (A .ranks) c → (value K A c p ≡ None) ↔ (value K A c q ≡ None)
 
--- one sign of life for each class of unmarked states, and for each state the weight that it gives there
-abbrev pub Chosen : {W : Type 0} → Weights W → Automaton W → (ℕ → Bool) → (ℕ → ℕ → Bool) → (ℕ → W) → Type 0
-Chosen K A live marks f =
-    (p q : ℕ) → live p ≡ true → live q ≡ true → marks p q ≡ false → (c : Context) × OverContext (A .ranks) c × (value K A c p ≡ Some (f p)) × (value K A c q ≡ Some (f q))
+-- a marked pair has different signs of life
+abbrev pub True-signs : {W : Type 0} → Weights W → Automaton W → (ℕ → ℕ → Bool) → Type 0
+True-signs K A marks = (p q : ℕ) → marks p q ≡ true → Same-signs K A p q → ⊥
 
+-- two unmarked states have a context in common in which each gives its factor, up to a weight that the two share
+abbrev pub Chosen : {W : Type 0} → Weights W → Automaton W → (ℕ → Bool) → (ℕ → ℕ → Bool) → (ℕ → W) → Type 0
+Chosen {W} K A live marks f =
+    (p q : ℕ) → live p ≡ true → live q ≡ true → marks p q ≡ false
+    → (c : Context) × (z : W) × OverContext (A .ranks) c × (value K A c p ≡ Some (K .times z (f p))) × (value K A c q ≡ Some (K .times z (f q)))
+
+-- marked states have different signs of life, live states that stay unmarked have the same, and being unmarked is an equivalence relation of live states
 pub record First-round {W : Type 0} (K : Weights W) (A : Automaton W) (live : ℕ → Bool) (marks : ℕ → ℕ → Bool) : Type 0 where
-  pub truthful : True-marks K A marks → (p q : ℕ) → live p ≡ true → live q ≡ true → Marks-first A live marks p q → (a : W) → Equivalent K A a p q → ⊥
+  pub truthful : True-signs K A marks → (p q : ℕ) → live p ≡ true → live q ≡ true → Marks-first A live marks p q → Same-signs K A p q → ⊥
   pub complete : Symmetric marks → At-rest live marks (Marks-first A live marks) → (p q : ℕ) → live p ≡ true → live q ≡ true → marks p q ≡ false → Same-signs K A p q
+  pub unmarked-reflexive : True-signs K A marks → (p : ℕ) → marks p p ≡ false
+  pub unmarked-transitive : True-signs K A marks → Symmetric marks → At-rest live marks (Marks-first A live marks) → (p q r : ℕ) → live p ≡ true → live q ≡ true → live r ≡ true → marks p q ≡ false → marks q r ≡ false → marks p r ≡ false
 
 -- the factors f were chosen by the marks of the first round
 pub record Second-round {W : Type 0} (K : Weights W) (A : Automaton W) (live : ℕ → Bool) (f : ℕ → W) (marks : ℕ → ℕ → Bool) : Type 0 where

@@ -4,7 +4,7 @@ use mathlib.Core.Bool.{true}
 use mathlib.Core.Logic.{_↔_}
 use Prim.Native.Nat.{ℕ, _<_}
 use Rattle.kinds.specs.Weights.{Weights}
-use Rattle.automata.specs.Automata.{Automaton, Sound}
+use Rattle.automata.specs.Automata.{Automaton}
 use Rattle.automata.specs.Runs.{Alike, Minimal}
 use Rattle.automata.specs.Contexts.{Live, Equivalent}
 use Rattle.automata.specs.Merging.{Grouping, Admissible, merged}

@@ -1,6 +1,6 @@
 -- The run of a tree, from the leaves up, and what the tree weighs.
 use mathlib.Core.Path.{_≡_}
-use mathlib.Core.Bool.{Bool, cond}
+use mathlib.Core.Bool.{cond}
 use mathlib.Core.List.{List, [], _∷_}
 use Prim.Native.Nat.{ℕ, _≤_}
 use Rattle.std.specs.declared.option.Option.{Option}
@@ -40,6 +40,7 @@ step K A s (Some b) = applied K (b .weight) (find (A .rules) s (b .states))
 abbrev mutual
   pub run : {W : Type 0} → Weights W → Automaton W → Tree → Option (At W)
   run K A (node s ts) = step K A s (runs K A ts)
+
   pub runs : {W : Type 0} → Weights W → Automaton W → Row → Option (Ats W)
   runs K A none = Some (record { states = []; weight = K .one })
   runs K A (t ▹ ts) = beside K (run K A t) (runs K A ts)

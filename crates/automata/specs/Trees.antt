@@ -5,11 +5,11 @@ use Prim.Native.Nat.{ℕ, suc, _<_}
 use lib.ListN.{length, getD}
 
 infixr 5 _▹_
-
 -- a tree is a symbol over a row of trees
 mutual
   pub data Tree : Type 0 where
     node : ℕ → Row → Tree
+
   pub data Row : Type 0 where
     none : Row
     _▹_ : Tree → Row → Row
@@ -31,6 +31,7 @@ rank ranks s = getD ranks s 0
 abbrev mutual
   pub Over : List ℕ → Tree → Type 0
   Over ranks (node s ts) = (s < length ranks) × (size ts ≡ rank ranks s) × Overs ranks ts
+
   pub Overs : List ℕ → Row → Type 0
   Overs ranks none = Unit {0}
   Overs ranks (t ▹ ts) = Over ranks t × Overs ranks ts

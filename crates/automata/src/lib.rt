@@ -10,6 +10,20 @@ ghost use Rattle.automata.specs.Minimality.{Lower-bound, By-equivalence, Reduc
 ghost use Rattle.automata.specs.Comparing.{Failing-witnessed, Same-by-exploring};
 use kinds::Kind;
 
+mod examples;
+
+pub use examples::equivalence_example;
+pub use examples::failing_example;
+pub use examples::first_round_example;
+pub use examples::lower_bound_example;
+pub use examples::merging_example;
+pub use examples::plugging_example;
+pub use examples::pushing_example;
+pub use examples::reducing_example;
+pub use examples::same_by_exploring_example;
+pub use examples::second_round_example;
+pub use examples::trimming_example;
+
 // A tree in a context weighs its run weight times what its state gives there.
 pub fn plugging_stands<W: Kind>()
     ensures { λ _. ⌜ Plugging (W·Kind .weights) ⌝ }
@@ -35,7 +49,7 @@ pub fn equivalence_stands<W: Kind>()
     ensures { λ _. ⌜ ((A : Automaton W·Weight) → Sound A → Equivalences (W·Kind .weights) A) ⌝ }
 {}
 
-// Marking, round one: the marks are true, and live states that stay unmarked have the same signs of life.
+// Marking, round one: marked states have different signs of life, live states that stay unmarked have the same, and being unmarked is an equivalence relation.
 pub fn first_round_stands<W: Kind>()
     ensures { λ _. ⌜ ((A : Automaton W·Weight) (live : ℕ → Bool) (marks : ℕ → ℕ → Bool) → Sound A → Decides-live (W·Kind .weights) A live → First-round (W·Kind .weights) A live marks) ⌝ }
 {}
