@@ -26,3 +26,4 @@ pub mod Explores
 pub mod Simulations
 pub mod Marks
 pub mod SecondMarks
+pub mod Alikes

@@ -1,4 +1,5 @@
 pub mod Adds
+pub mod Books
 pub mod Entries
 pub mod Lookups
 pub mod Positions

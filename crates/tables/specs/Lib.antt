@@ -1,1 +1,3 @@
+pub mod Histories
 pub mod Images
+pub mod Reductions

@@ -1,5 +1,5 @@
 -- Which refusal comes first, and what rules one out: ranks within their bounds, and a tree list.
-use mathlib.Core.Path.{_≡_, refl, sym}
+use mathlib.Core.Path.{_≡_, refl, sym, ap, _∙_}
 use mathlib.Core.Bool.{Bool, true, false, cond}
 use mathlib.Core.Logic.{_⊎_, inl, inr}
 use mathlib.Core.List.{List, [], _∷_}
@@ -46,3 +46,22 @@ list-fine ranks ns is e (inl (wrong)) = go (wrong .0)
     go (inl none) = omega (arith, is .some)
     go (inr many) = omega (arith, is .few)
 list-fine ranks ns is e (inr first) = first .2 .bad (is .good (first .0) (first .2 .within))
+
+-- and back: which refusal the checks give, from which tests are met
+pub none-met : (cs : List Check) → NoneMet (checks cs) → first-met cs ≡ None
+none-met [] n = refl
+none-met (c ∷ cs) n = at (c .met) refl (none-met cs (n .1))
+  where
+    at : (b : Bool) → c .met ≡ b → first-met cs ≡ None → cond (c .met) (Some (c .refusal)) (first-met cs) ≡ None
+    at true m ih = absurd (n .0 (c .refusal) (m, refl))
+    at false m ih = ap (λ b. cond b (Some (c .refusal)) (first-met cs)) m ∙ ih
+
+pub first-is-met : (cs : List Check) (e : Refusal) → FirstMet (checks cs) e → first-met cs ≡ Some e
+first-is-met [] e m = absurd m
+first-is-met (c ∷ cs) e (inl here) =
+    ap (λ b. cond b (Some (c .refusal)) (first-met cs)) (here .0) ∙ ap Some (sym (here .1))
+first-is-met (c ∷ cs) e (inr there) = at (c .met) refl (first-is-met cs e (there .1))
+  where
+    at : (b : Bool) → c .met ≡ b → first-met cs ≡ Some e → cond (c .met) (Some (c .refusal)) (first-met cs) ≡ Some e
+    at true m ih = absurd (there .0 (c .refusal) (m, refl))
+    at false m ih = ap (λ b. cond b (Some (c .refusal)) (first-met cs)) m ∙ ih
