@@ -11,7 +11,7 @@ ghost use Rattle.trees.specs.declared.refusal.Refusal.the-variants.{Short};
 ghost use Rattle.rules.specs.Shapes.{ranks-in, accepts-in, automaton};
 ghost use Rattle.rules.specs.declared.side.Side.the-variants.{First};
 ghost use Rattle.rules.specs.Running.{at-of, run-at, row-runs, Gathered};
-ghost use Rattle.rules.specs.Weighing.{Said, Says};
+ghost use Rattle.rules.specs.Weighing.{Said, Weighed};
 use crate::lookup::rule_for;
 use crate::place::Place;
 use crate::rule::Rule;
@@ -101,7 +101,7 @@ fn verdict<W: Kind>(shape: &Shape, run: Option<Run<W>>) -> Weighing<W>
 
 // Weighs the tree of a list by these rules.
 fn weigh_rules<W: Kind>(shape: &Shape, rules: &[Rule<W>], list: &[Node], work: &mut [Place<W>]) -> Result<Weighing<W>, Refusal>
-    ensures { λ r. ⌜ Answers (bad-list (ranks-in (now (shape .entry))) (now (list .entry)) ∷ when (length (now (work .entry)) < length (now (list .entry))) Short ∷ []) (Says (W·Kind .stands) (W·Kind .weights) (automaton (W·Kind .stands) (now (shape .entry)) (now (rules .entry))) (tree-of (ranks-in (now (shape .entry))) (now (list .entry)))) (now (work .exit) ≡ now (work .entry)) r ⌝ }
+    ensures { λ r. ⌜ Answers (bad-list (ranks-in (now (shape .entry))) (now (list .entry)) ∷ when (length (now (work .entry)) < length (now (list .entry))) Short ∷ []) (Weighed (W·Kind .stands) (W·Kind .weights) (automaton (W·Kind .stands) (now (shape .entry)) (now (rules .entry))) (tree-of (ranks-in (now (shape .entry))) (now (list .entry)))) (now (work .exit) ≡ now (work .entry)) r ⌝ }
 {
     check_list(&shape.alphabet(), list)?;
     if work.len() < list.len() {
@@ -113,7 +113,7 @@ fn weigh_rules<W: Kind>(shape: &Shape, rules: &[Rule<W>], list: &[Node], work: &
 
 // Weighs the tree of a list by the first `count` rules.
 fn weigh_first<W: Kind>(shape: &Shape, memory: &[Rule<W>], count: usize, list: &[Node], work: &mut [Place<W>]) -> Result<Weighing<W>, Refusal>
-    ensures { λ r. ⌜ Answers (bad-list (ranks-in (now (shape .entry))) (now (list .entry)) ∷ when (length (now (work .entry)) < length (now (list .entry))) Short ∷ []) (Says (W·Kind .stands) (W·Kind .weights) (automaton (W·Kind .stands) (now (shape .entry)) (take count (now (memory .entry)))) (tree-of (ranks-in (now (shape .entry))) (now (list .entry)))) (now (work .exit) ≡ now (work .entry)) r ⌝ }
+    ensures { λ r. ⌜ Answers (bad-list (ranks-in (now (shape .entry))) (now (list .entry)) ∷ when (length (now (work .entry)) < length (now (list .entry))) Short ∷ []) (Weighed (W·Kind .stands) (W·Kind .weights) (automaton (W·Kind .stands) (now (shape .entry)) (take count (now (memory .entry)))) (tree-of (ranks-in (now (shape .entry))) (now (list .entry)))) (now (work .exit) ≡ now (work .entry)) r ⌝ }
 {
     let used = count.min(memory.len());
     weigh_rules(shape, &memory[0..used], list, work)
@@ -121,7 +121,7 @@ fn weigh_first<W: Kind>(shape: &Shape, memory: &[Rule<W>], count: usize, list: &
 
 // Weighs the tree of a list by the first `count` rules of the memory, which stays as it is.
 pub fn weigh<W: Kind>(shape: &Shape, memory: &mut [Rule<W>], count: usize, list: &[Node], work: &mut [Place<W>]) -> Result<Weighing<W>, Refusal>
-    ensures answer { λ r. ⌜ Answers (bad-list (ranks-in (now (shape .entry))) (now (list .entry)) ∷ when (length (now (work .entry)) < length (now (list .entry))) Short ∷ []) (Says (W·Kind .stands) (W·Kind .weights) (automaton (W·Kind .stands) (now (shape .entry)) (take count (now (memory .entry)))) (tree-of (ranks-in (now (shape .entry))) (now (list .entry)))) (now (work .exit) ≡ now (work .entry)) r ⌝ }
+    ensures answer { λ r. ⌜ Answers (bad-list (ranks-in (now (shape .entry))) (now (list .entry)) ∷ when (length (now (work .entry)) < length (now (list .entry))) Short ∷ []) (Weighed (W·Kind .stands) (W·Kind .weights) (automaton (W·Kind .stands) (now (shape .entry)) (take count (now (memory .entry)))) (tree-of (ranks-in (now (shape .entry))) (now (list .entry)))) (now (work .exit) ≡ now (work .entry)) r ⌝ }
     ensures same { λ _. ⌜ now (memory .exit) ≡ now (memory .entry) ⌝ }
 {
     weigh_first(shape, memory, count, list, work)

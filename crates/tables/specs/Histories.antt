@@ -8,11 +8,14 @@ use Rattle.std.specs.declared.result.Result.{Result}
 use Rattle.std.specs.declared.result.Result.the-variants.{Ok, Err}
 use Rattle.kinds.specs.Weights.{Weights}
 use Rattle.automata.specs.Automata.{Sound}
-use Rattle.automata.specs.Runs.{Alike, Minimal}
+use Rattle.automata.specs.Trees.{Tree}
+use Rattle.automata.specs.Runs.{weight-of, Alike, Minimal}
 use Rattle.trees.specs.declared.refusal.Refusal.{Refusal}
 use Rattle.trees.specs.Refusals.{Check, checks, first-met, Answers}
 use Rattle.rules.specs.Books.{Book, opened, Opens, accept-checks, accepted, Accepts, add-checks, added}
 use Rattle.rules.specs.Pushing.{push-checks, pushed-book}
+use Rattle.rules.specs.Weighing.{weight-said}
+use Rattle.rules.specs.declared.weighing.Weighing.{Weighing}
 use Rattle.tables.specs.Reductions.{Reduces}
 
 -- how a table was opened: the measure's ranks and states, and the places of the rule memory
@@ -72,3 +75,8 @@ pub record Faithful {W : Type 0} (K : Weights W) (o : Opening) (h : List (Call W
   pub sound : Sound (b .content)
   pub weighs : Alike K (book o h .content) (b .content)
   pub fewest : (answer : ℕ × ℕ) → last-reduction h ≡ Some answer → (b .content .states ≡ answer .1) × Minimal K (b .content)
+
+-- an answer of weigh says what the tree weighs by the book
+abbrev pub Weighs-as-booked : {V W : Type 0} → Weights W → (V → W) → Book W → Tree → Result (Weighing V) Refusal → Type 0
+Weighs-as-booked K stands b t (Ok w) = weight-of K (b .content) t ≡ weight-said stands w
+Weighs-as-booked K stands b t (Err e) = Unit {0}

@@ -1,15 +1,15 @@
 -- The tree of an entry is its symbol over the trees of its children.
 use mathlib.Core.Path.{_≡_, refl, sym, ap, _∙_}
 use mathlib.Core.List.{List, [], _∷_, _++_}
-use Prim.Native.Nat.{ℕ, _+_, _≤_, _<_}
+use Prim.Native.Nat.{ℕ, zero, suc, _+_, _≤_, _<_}
 use native.Mathlib.Omega.{arith}
 use lib.ListN.{length, take, drop, getD}
 use Rattle.std.specs.shelf.Lists.{All}
 use Rattle.std.proofs.shelf.Lists.{append-assoc, length-append, length-take, length-take-le, getD-append-left, getD-push, getD-take, drop-more, take-append-drop}
 use Rattle.std.proofs.shelf.Elements.{all-from-getD}
-use Rattle.automata.specs.Trees.{Tree, Row, node, none, _▹_, rank}
+use Rattle.automata.specs.Trees.{Tree, Row, node, none, _▹_, size, rank, Over, Overs}
 use Rattle.trees.specs.declared.node.Node.{Node}
-use Rattle.trees.specs.Lists.{blank, children-of, Good, row-of, grown, trees-of, tree-at}
+use Rattle.trees.specs.Lists.{blank, children-of, Good, GoodAt, row-of, grown, trees-of, tree-at}
 
 module _ (ranks : List ℕ) where
   grown-append : (ts : List Tree) (ns ms : List Node) → grown ranks ts (ns ++ ms) ≡ grown ranks (grown ranks ts ns) ms
@@ -63,3 +63,26 @@ module _ (ranks : List ℕ) where
       all-from-getD (λ c. c < i) (children-of ranks n) 0 (λ k h.
         let low : k < rank ranks (n .symbol) = omega (arith, length-take (rank ranks (n .symbol)) (n .children)) in
         rw (getD-take (rank ranks (n .symbol)) (n .children) k 0 low) (good .places k (omega arith) .earlier low))
+
+  -- a row of trees over the alphabet, as many as there are numbers
+  row-over : (ts : List Tree) (i : ℕ) (cs : List ℕ) → ((k : ℕ) → k < i → Over ranks (getD ts k (node 0 none))) → All (λ c. c < i) cs → Overs ranks (row-of ts cs)
+  row-over ts i [] over all = tt
+  row-over ts i (c ∷ cs) over all = (over c (all .0), row-over ts i cs over (all .1))
+
+  row-size : (ts : List Tree) (cs : List ℕ) → size (row-of ts cs) ≡ length cs
+  row-size ts [] = refl
+  row-size ts (c ∷ cs) = ap suc (row-size ts cs)
+
+  -- the trees of good entries are trees over the alphabet
+  pub trees-over : (ns : List Node) → ((s : ℕ) → rank ranks s ≤ 4) → ((i : ℕ) → i < length ns → GoodAt ranks ns i) → (i : ℕ) → i < length ns → Over ranks (tree-at ranks ns i)
+  trees-over ns small good i h = below (suc i) i (omega arith) h
+    where
+      below : (n k : ℕ) → k < n → k < length ns → Over ranks (tree-at ranks ns k)
+      below zero k l m = absurd (omega arith)
+      below (suc n) k l m =
+          let e = getD ns k blank in
+          let g = good k m in
+          let early = children-earlier k e (small (e .symbol)) g in
+          let many : length (children-of ranks e) ≡ rank ranks (e .symbol) = length-take-le (rank ranks (e .symbol)) (e .children) (omega (arith, g .four, small (e .symbol))) in
+          rw (tree-entry ns k m early)
+          (g .symbol-within, row-size (trees-of ranks ns) (children-of ranks e) ∙ many, row-over (trees-of ranks ns) k (children-of ranks e) (λ j l′. below n j (omega arith) (omega arith)) early)

@@ -24,8 +24,9 @@ pub record Placed (rank i k child : ℕ) : Type 0 where
   pub earlier : k < rank → child < i
   pub padded : rank ≤ k → child ≡ 0
 
--- an entry with the number i: a symbol of the alphabet, children by smaller numbers, and 0 in the other places
+-- an entry with the number i: four places, a symbol of the alphabet, children by smaller numbers, and 0 in the other places
 pub record Good (ranks : List ℕ) (i : ℕ) (n : Node) : Type 0 where
+  pub four : length (n .children) ≡ 4
   pub symbol-within : n .symbol < length ranks
   pub places : (k : ℕ) → k < 4 → Placed (rank ranks (n .symbol)) i k (getD (n .children) k 0)
 

@@ -22,4 +22,4 @@ returns-then-not-is-placed c =
 pub returns : need.returns
 returns c =
     let n = nth-some (ranks-of (c .args .alphabet .now)) (c .args .node .now .symbol) (c .in-Some .rank) 0 (sym (c .in-Some .ensures tt)) in
-    answers-yes (record { symbol-within = n .0; places = λ k h. subst (λ (m : ℕ). Placed m (c .args .at) k (getD (c .args .node .now .children) k 0)) (sym (n .1)) (c .loop-k .inv k (omega arith)) })
+    answers-yes (record { four = omega arith; symbol-within = n .0; places = λ k h. subst (λ (m : ℕ). Placed m (c .args .at) k (getD (c .args .node .now .children) k 0)) (sym (n .1)) (c .loop-k .inv k (omega arith)) })
