@@ -1,0 +1,4 @@
+pub mod Children
+pub mod Derivations
+pub mod Listings
+pub mod Onward
