@@ -1,0 +1,3 @@
+pub mod Acceptance
+pub mod Classes
+pub mod Renaming
