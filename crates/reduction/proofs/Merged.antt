@@ -7,11 +7,10 @@ use Prim.Native.Nat.{ℕ, _≤_, _<_}
 use native.Mathlib.Omega.{arith}
 use lib.Dec.{eqb}
 use Rattle.std.specs.shelf.Lists.{kept-by}
-use Rattle.std.proofs.shelf.Tests.{cases-lt, cases-bool}
+use Rattle.std.proofs.shelf.Tests.{cases-lt, cases-bool, eqb-true, and-parts}
 use Rattle.kinds.specs.Weights.{Weights}
 use Rattle.automata.specs.Automata.{Transition, Automaton}
 use Rattle.automata.specs.Merging.{keeps, Grouping, relabelled, firsts, merged, Admissible}
-use Rattle.automata.proofs.Finds.{eqb-true, and-left, and-right}
 use Rattle.automata.proofs.Merges.{below-some}
 use Rattle.rules.specs.declared.rule.Rule.{Rule}
 use Rattle.rules.specs.declared.place.Place.{Place}
@@ -32,8 +31,9 @@ none-accepts s c within k h = ⊎-elim (λ e. absurd (no e)) (λ e. e) (cases-bo
     no e =
         let some = below-some (states-in s) (accepts-as s c k) e in
         let q = some .0 in
-        let member = and-left (member-in c q) (eqb (class-in c q) k && accepts-in s q) (some .2) in
-        let class = eqb-true (class-in c q) k (and-left (eqb (class-in c q) k) (accepts-in s q) (and-right (member-in c q) (eqb (class-in c q) k && accepts-in s q) (some .2))) in
+        let both = and-parts (member-in c q) (eqb (class-in c q) k && accepts-in s q) (some .2) in
+        let member = both .0 in
+        let class = eqb-true (class-in c q) k (and-parts (eqb (class-in c q) k) (accepts-in s q) (both .1) .0) in
         omega (arith, within q member)
 
 module _ {V W : Type 0} (stands : V → W) (K : Weights W) (shape shape′ : Shape) (rules rules′ : List (Rule V)) (c : Classes) (work : List (Place V)) where

@@ -12,7 +12,7 @@ use Rattle.automata.specs.Trees.{rank}
 use Rattle.automata.specs.Automata.{Transition}
 use Rattle.automata.specs.Pushing.{undone}
 use Rattle.automata.specs.Merging.{all-in, keeps, relabelled}
-use Rattle.automata.proofs.Finds.{and-both}
+use Rattle.std.proofs.shelf.Tests.{and-from}
 use Rattle.rules.specs.declared.rule.Rule.{Rule}
 use Rattle.rules.specs.declared.place.Place.{Place}
 use Rattle.rules.specs.Shapes.{transition}
@@ -41,7 +41,7 @@ module _ {V W : Type 0} (stands : V → W) (K : Weights W) (c : Classes) (work :
       let t = transition stands ranks r in
       let below : Some (take (rank ranks (r .left .symbol)) places) ≡ classes-of c (t .children) = subst (λ (k : ℕ). Some (take k places) ≡ classes-of c (take k (r .left .children))) fits children in
       let both = classes-some c (t .children) (take (rank ranks (r .left .symbol)) places) below in
-      let stays : keeps (G .member) t ≡ true = and-both (member-in c (r .target)) (all-in (member-in c) (t .children)) (sym (ap isSome target)) (both .0) in
+      let stays : keeps (G .member) t ≡ true = and-from (member-in c (r .target)) (all-in (member-in c) (t .children)) (sym (ap isSome target)) (both .0) in
       let class : p ≡ class-in c (r .target) = ap (λ o. valueOr o 0) target in
       let weighs : stands v ≡ relabelled K G t .weight = weight ∙ ap (λ k. K .times (K .times (stands (r .weight)) (f (r .target))) (undone K f (take k (r .left .children)))) fits in
       ap Some (transition-is (both .1) class weighs)

@@ -1,3 +1,4 @@
 pub mod Acceptance
 pub mod Classes
 pub mod Renaming
+pub mod Partitions

@@ -28,7 +28,8 @@ use Rattle.rules.specs.Books.{Book, opened, Opens, accept-checks, accepted, Acc
 use Rattle.rules.specs.Pushing.{at-state, push-checks, pushed-book}
 use Rattle.rules.proofs.Adds.{fine}
 use Rattle.rules.proofs.Books.{opens-is, accepts-is, sound-opened, sound-accepted, sound-added, sound-pushed}
-use Rattle.tables.specs.Reductions.{Partition, Reduction, Reduces}
+use Rattle.reduction.specs.Partitions.{Partition}
+use Rattle.tables.specs.Reductions.{Reduces}
 use Rattle.tables.specs.Histories as history
 use Rattle.tables.specs.Histories.{Opening, Call, accept, add, close, push, reduce, unless, book, Drafted, opening, accepting, adding, Lived, closing, last-reduction, Faithful}
 
