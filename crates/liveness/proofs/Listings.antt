@@ -1,7 +1,7 @@
 -- Lists of states with flags: what a flag says, and one state more.
 use mathlib.Core.Path.{_≡_, refl, sym, ap, _∙_, subst}
 use mathlib.Core.Bool.{Bool, true, false}
-use mathlib.Core.Logic.{_⊎_, inl, inr, ⊎-elim, _↔_}
+use mathlib.Core.Logic.{_⊎_, inl, inr, ⊎-elim}
 use mathlib.Core.List.{List, [], _∷_, _++_}
 use Prim.Native.Nat.{ℕ, suc, _+_, _≤_, _<_}
 use native.Mathlib.Omega.{arith}
@@ -99,24 +99,24 @@ module _ (states : ℕ) (flags : List Bool) (order : List ℕ) (count : ℕ) (wi
   pub set-here : Flagged (set flags q true) q
   set-here = getD-set-same flags q true false (omega arith)
 
-  flagged-more : (p : ℕ) → Flagged (set flags q true) p ↔ Has (take (count + 1) (set order count q)) p
-  flagged-more p =
-      let forth : Flagged (set flags q true) p → Has (take count order ++ q ∷ []) p =
-            λ f. ⊎-elim
-            (λ e. subst (Has (take count order ++ q ∷ [])) (sym e) (has-push (take count order) q))
-            (λ n. has-append-left (take count order) (q ∷ []) p (listed .flagged p .0 (sym (getD-set-other flags q p true false n) ∙ f))) (cases-eq p q) in
-      let back : Has (take count order ++ q ∷ []) p → Flagged (set flags q true) p =
-            λ h. ⊎-elim
-            (λ l. flag-kept flags q p (omega arith) (listed .flagged p .1 l))
-            (λ e. subst (Flagged (set flags q true)) e set-here) (has-push-cases (take count order) q p h) in
-      ((λ f. subst (λ (xs : List ℕ). Has xs p) (sym grown) (forth f)), (λ h. back (subst (λ (xs : List ℕ). Has xs p) grown h)))
+  flagged-forth : (p : ℕ) → Flagged (set flags q true) p → Has (take count order ++ q ∷ []) p
+  flagged-forth p f =
+      ⊎-elim
+      (λ e. subst (Has (take count order ++ q ∷ [])) (sym e) (has-push (take count order) q))
+      (λ n. has-append-left (take count order) (q ∷ []) p (listed .flagged p .0 (sym (getD-set-other flags q p true false n) ∙ f))) (cases-eq p q)
+
+  flagged-back : (p : ℕ) → Has (take count order ++ q ∷ []) p → Flagged (set flags q true) p
+  flagged-back p h =
+      ⊎-elim
+      (λ l. flag-kept flags q p (omega arith) (listed .flagged p .1 l))
+      (λ e. subst (Flagged (set flags q true)) e set-here) (has-push-cases (take count order) q p h)
 
   pub listed-more : Listed states (set flags q true) (set order count q) (count + 1)
   listed-more = record {
     bounded = let r = room in omega arith;
     within = within-more;
     distinct = distinct-more;
-    flagged = flagged-more;
+    flagged = λ p. ((λ f. subst (λ (xs : List ℕ). Has xs p) (sym grown) (flagged-forth p f)), (λ h. flagged-back p (subst (λ (xs : List ℕ). Has xs p) grown h)));
   }
 
   -- what holds of each state and those before it, if a new state changes it only at that state

@@ -1,13 +1,13 @@
 -- Going down from the accepting states: each state that is added is led on, and a pass that adds none leaves nothing to add.
-use mathlib.Core.Path.{_≡_, refl, sym, ap, _∙_, subst}
-use mathlib.Core.Bool.{Bool, true, false}
+use mathlib.Core.Path.{_≡_, refl, sym, _∙_, subst}
+use mathlib.Core.Bool.{true, false}
 use mathlib.Core.Logic.{_⊎_, inl, inr, ⊎-elim}
 use mathlib.Core.List.{List, [], _∷_}
 use Prim.Native.Nat.{ℕ, _+_, _≤_, _<_}
 use native.Mathlib.Omega.{arith}
 use borrow.Author.Count.{below-more}
 use lib.ListN.{length, take, getD, set, replicate}
-use Rattle.std.specs.shelf.Lists.{All, Has}
+use Rattle.std.specs.shelf.Lists.{All}
 use Rattle.std.specs.shelf.Maps.{nth}
 use Rattle.std.specs.declared.option.Option.the-variants.{Some}
 use Rattle.std.proofs.shelf.Lists.{getD-set-same, getD-set-other, length-set}
@@ -21,7 +21,7 @@ use Rattle.liveness.specs.declared.reach.Reach.{Reach}
 use Rattle.liveness.specs.declared.life.Life.{Life}
 use Rattle.liveness.specs.Listings.{Flagged, Listed}
 use Rattle.liveness.specs.Reaching.{Reached}
-use Rattle.liveness.specs.Living.{Leads, Accepts, Led, Lively, live-too, Noted, Begins, Begun, Living, Goes-on, Followed, Rests}
+use Rattle.liveness.specs.Living.{Leads, Accepts, Lively, live-too, Noted, Begun, Living, Goes-on, Followed, Rests}
 use Rattle.liveness.proofs.Listings.{listed-none, listed-more, traced-more, flag-kept, flagged-within, set-here}
 
 all-both : {X : Type 0} (P Q S : X → Type 0) → ((x : X) → P x → Q x → S x) → (xs : List X) → All P xs → All Q xs → All S xs
@@ -79,9 +79,9 @@ beginning-more shape R L L′ n j k h few b a (inr t) =
       sized = sized-more L n j k (b .sized);
       listed = listed-more (states-in shape) (L .live) (L .order) (L .count) (b .sized .live) (b .sized .order) few (b .listed) n h (t .2);
       accepting = traced-more (states-in shape) (L .live) (L .order) (L .count) (b .sized .live) (b .sized .order) few (b .listed) n h (t .2)
-        (λ xs p. Accepts (accepts-in shape) R p) (λ xs p. Accepts (accepts-in shape) R p) (λ xs p m d. d) a (b .accepting);
+          (λ xs p. Accepts (accepts-in shape) R p) (λ xs p. Accepts (accepts-in shape) R p) (λ xs p m d. d) a (b .accepting);
       begins = below-more _ _ (λ q l x. flag-kept (L .live) n q (omega (arith, b .sized .live)) (b .begins q l x))
-        (λ x. set-here (states-in shape) (L .live) (L .order) (L .count) (b .sized .live) (b .sized .order) few (b .listed) n h (t .2));
+          (λ x. set-here (states-in shape) (L .live) (L .order) (L .count) (b .sized .live) (b .sized .order) few (b .listed) n h (t .2));
     })
 
 pub living-begun : {V W : Type 0} (stands : V → W) (shape : Shape) (rules : List (Rule V)) (R : Reach) (L : Life) → Begun shape R L → Living (automaton stands shape rules) R L
@@ -90,17 +90,17 @@ living-begun stands shape rules R L b = record { listed = b .listed; led = λ i 
 module _ {W : Type 0} (A : Automaton W) (R : Reach) where
   -- a state that a rule leads on to a target in the list is added
   living-more : A .states ≤ 48 → (L : Life) → Sized L → Living A R L → (r : Transition W) (q j k : ℕ) → nth (A .rules) j ≡ Some r → All (Flagged (R .reached)) (r .children) → nth (r .children) k ≡ Some q → Flagged (L .live) (r .target) → q < A .states → getD (L .live) q false ≡ false → Living A R (live-too L q j k)
-  living-more few L s g r q j k there all child target new off = 
+  living-more few L s g r q j k there all child target new off =
       let before = take (L .count) (L .order) in
       let last : Leads A R before q j k = record { rule = r; there = there; reached = all; child = child; target = g .listed .flagged (r .target) .0 target } in
       record {
         listed = listed-more (A .states) (L .live) (L .order) (L .count) (s .live) (s .order) few (g .listed) q new off;
         led = traced-more (A .states) (L .live) (L .order) (L .count) (s .live) (s .order) few (g .listed) q new off
-          (λ xs p. Accepts (A .accepting) R p ⊎ Leads A R xs p (getD (L .rule) p 0) (getD (L .place) p 0))
-          (λ xs p. Accepts (A .accepting) R p ⊎ Leads A R xs p (getD (set (L .rule) q j) p 0) (getD (set (L .place) q k) p 0))
-          (λ xs p n. ⊎-elim inl (λ d. inr (rw (getD-set-other (L .rule) q p j 0 n, getD-set-other (L .place) q p k 0 n) d)))
-          (inr (rw (getD-set-same (L .rule) q j 0 (omega (arith, s .rule)), getD-set-same (L .place) q k 0 (omega (arith, s .place))) last))
-          (g .led);
+            (λ xs p. Accepts (A .accepting) R p ⊎ Leads A R xs p (getD (L .rule) p 0) (getD (L .place) p 0))
+            (λ xs p. Accepts (A .accepting) R p ⊎ Leads A R xs p (getD (set (L .rule) q j) p 0) (getD (set (L .place) q k) p 0))
+            (λ xs p n. ⊎-elim inl (λ d. inr (rw (getD-set-other (L .rule) q p j 0 n, getD-set-other (L .place) q p k 0 n) d)))
+            (inr (rw (getD-set-same (L .rule) q j 0 (omega (arith, s .rule)), getD-set-same (L .place) q k 0 (omega (arith, s .place))) last))
+            (g .led);
         begins = λ p h a. flag-kept (L .live) q p (omega (arith, s .live)) (g .begins p h a);
       }
 
@@ -141,9 +141,9 @@ module _ {W : Type 0} (A : Automaton W) (R : Reach) where
     longer = g .longer;
     same = g .same;
     goes-on = λ e x f all on.
-      let is : r ≡ x = cc in
-      subst (λ (y : Transition W). All (λ c. c < A .states → Flagged (L .live) c) (y .children)) is
-      (all-from-getD (λ c. c < A .states → Flagged (L .live) c) (r .children) 0 (λ i l. g .noted e i (omega arith)));
+        let is : r ≡ x = cc in
+        subst (λ (y : Transition W). All (λ c. c < A .states → Flagged (L .live) c) (y .children)) is
+        (all-from-getD (λ c. c < A .states → Flagged (L .live) c) (r .children) 0 (λ i l. g .noted e i (omega arith)));
   }
 
   -- a rule that adds nothing
@@ -166,9 +166,9 @@ module _ {W : Type 0} (A : Automaton W) (R : Reach) where
     living = f .living;
     longer = omega (arith, g .longer, f .longer);
     goes-on = λ e.
-      let still : L′ .count ≡ L .count = omega (arith, g .longer, f .longer) in
-      subst (λ S. (k : ℕ) → k < i + 1 → (r : Transition W) → nth (A .rules) k ≡ Some r → Goes-on A R S r) (sym (f .same still))
-      (below-more _ _ (g .goes-on (sym still ∙ e)) (f .goes-on still));
+        let still : L′ .count ≡ L .count = omega (arith, g .longer, f .longer) in
+        subst (λ S. (k : ℕ) → k < i + 1 → (r : Transition W) → nth (A .rules) k ≡ Some r → Goes-on A R S r) (sym (f .same still))
+        (below-more _ _ (g .goes-on (sym still ∙ e)) (f .goes-on still));
   }
 
   pub lively : (L : Life) → Living A R L → Rests A R L → Reached A R → Lively A R L
@@ -177,6 +177,6 @@ module _ {W : Type 0} (A : Automaton W) (R : Reach) where
     led = g .led;
     begins = λ q f a. g .begins q (flagged-within (A .states) (R .reached) (R .order) (R .count) (reached .listed) q f) (a, f);
     closed = λ r h all on.
-      all-both (Flagged (R .reached)) (λ c. c < A .states → Flagged (L .live) c) (Flagged (L .live))
-      (λ c f k. k (flagged-within (A .states) (R .reached) (R .order) (R .count) (reached .listed) c f)) (r .children) all (rests r h all on);
+        all-both (Flagged (R .reached)) (λ c. c < A .states → Flagged (L .live) c) (Flagged (L .live))
+        (λ c f k. k (flagged-within (A .states) (R .reached) (R .order) (R .count) (reached .listed) c f)) (r .children) all (rests r h all on);
   }

@@ -52,11 +52,11 @@ abbrev pub Noted : ℕ → ℕ → ℕ → ℕ → Life → Life → Type 0
 Noted states q j k L L′ =
     ((L′ ≡ L) × (q < states → Flagged (L .live) q)) ⊎ ((L′ ≡ live-too L q j k) × (q < states) × (getD (L .live) q false ≡ false))
 
--- the accepting states that are reached are listed
+-- the accepting states that are reached are flagged
 abbrev pub Begins : ℕ → (ℕ → Bool) → Reach → Life → Type 0
 Begins states accepting R L = (q : ℕ) → q < states → Accepts accepting R q → Flagged (L .live) q
 
--- and nothing else is
+-- and no other state is listed
 pub record Begun (shape : Shape) (R : Reach) (L : Life) : Type 0 where
   pub listed : Listed (states-in shape) (L .live) (L .order) (L .count)
   pub accepting : (i : ℕ) → i < L .count → Accepts (accepts-in shape) R (getD (L .order) i 0)
@@ -73,13 +73,13 @@ abbrev pub Goes-on : {W : Type 0} → Automaton W → Reach → Life → Transit
 Goes-on A R L r =
     All (Flagged (R .reached)) (r .children) → Flagged (L .live) (r .target) → All (λ c. c < A .states → Flagged (L .live) c) (r .children)
 
+-- so it is for every rule
+abbrev pub Rests : {W : Type 0} → Automaton W → Reach → Life → Type 0
+Rests {W} A R L = (r : Transition W) → Has (A .rules) r → Goes-on A R L r
+
 -- the rule at the place j has been followed from L to L′
 pub record Followed {W : Type 0} (A : Automaton W) (R : Reach) (j : ℕ) (L L′ : Life) : Type 0 where
   pub living : Living A R L′
   pub longer : L .count ≤ L′ .count
   pub same : L′ .count ≡ L .count → L′ ≡ L
   pub goes-on : L′ .count ≡ L .count → (r : Transition W) → nth (A .rules) j ≡ Some r → Goes-on A R L r
-
--- so it is for every rule
-abbrev pub Rests : {W : Type 0} → Automaton W → Reach → Life → Type 0
-Rests {W} A R L = (r : Transition W) → Has (A .rules) r → Goes-on A R L r

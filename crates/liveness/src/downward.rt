@@ -42,7 +42,13 @@ fn note(states: usize, state: usize, rule: usize, place: usize, life: &mut Life)
 fn begin(shape: &Shape, reach: &Reach) -> Life
     ensures { λ r. ⌜ Begun (now (shape .entry)) (now (reach .entry)) r ⌝ }
 {
-    let mut life = Life { live: [false; 48], order: [0; 48], count: 0, rule: [0; 48], place: [0; 48] };
+    let mut life = Life {
+        live: [false; 48],
+        order: [0; 48],
+        count: 0,
+        rule: [0; 48],
+        place: [0; 48],
+    };
     let states = shape.states();
     for q in 0..states {
         if shape.is_accepting(q) && is_set(&reach.reached, q) {

@@ -1,7 +1,7 @@
 // Finding the reachable states, from the leaves up.
 ghost use mathlib.Core.Path.{_≡_};
 ghost use mathlib.Core.Bool.{true, false};
-ghost use Prim.Native.Nat.{_≤_, _<_};
+ghost use Prim.Native.Nat.{_<_};
 ghost use Rattle.rules.specs.Shapes.{states-in, automaton};
 ghost use Rattle.liveness.specs.Listings.{Listed};
 ghost use Rattle.liveness.specs.Reaching.{Reaching, Reached, Settled, reached-too, children-in, Tried};
@@ -29,7 +29,10 @@ fn try_rule(shape: &Shape, left: &LeftSide, target: usize, place: usize, found: 
     requires { ⌜ Listed (states-in (now shape)) (now found .reached) (now found .order) (now found .count) ⌝ }
     ensures { λ _. ⌜ Tried (states-in (now (shape .entry))) (children-in (now (shape .entry)) (now (left .entry))) target place (now (found .entry)) (now (found .exit)) ⌝ }
 {
-    if target < shape.states() && !is_set(&found.reached, target) && all_set(&found.reached, shape, left) {
+    if target < shape.states()
+        && !is_set(&found.reached, target)
+        && all_set(&found.reached, shape, left)
+    {
         add_reached(found, target, place);
     }
 }
@@ -52,7 +55,12 @@ fn pass_up<W: Kind>(shape: &Shape, rules: &[Rule<W>], found: &mut Reach) -> bool
 pub fn find_reached<W: Kind>(shape: &Shape, rules: &[Rule<W>]) -> Reach
     ensures { λ r. ⌜ Reached (automaton (W·Kind .stands) (now (shape .entry)) (now (rules .entry))) r ⌝ }
 {
-    let mut found = Reach { reached: [false; 48], order: [0; 48], count: 0, rule: [0; 48] };
+    let mut found = Reach {
+        reached: [false; 48],
+        order: [0; 48],
+        count: 0,
+        rule: [0; 48],
+    };
     while pass_up(shape, rules, &mut found) {}
     found
 }

@@ -13,7 +13,11 @@ use Rattle.automata.specs.Automata.{Transition, fits-left, find}
 use Rattle.automata.specs.Merging.{keeps, Grouping, relabelled, firsts}
 use Rattle.automata.proofs.Finds.{fits-symbol, fits-children, fits-itself}
 use Rattle.automata.proofs.Firsts.{find-firsts}
-use Rattle.reduction.specs.Renaming.{renamed, taken, added}
+use Rattle.reduction.specs.Renaming.{renamed, taken}
+
+-- t after the rules, unless one of them has its left side
+abbrev pub added : {W : Type 0} → List (Transition W) → Transition W → List (Transition W)
+added rs t = cond (taken rs t) rs (rs ++ t ∷ [])
 
 module _ {W : Type 0} where
   -- two rules have each the left side of the other, or neither has

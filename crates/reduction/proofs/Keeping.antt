@@ -11,7 +11,7 @@ use Rattle.std.proofs.shelf.Lists.{take-all, map-more, take-more-set, map-push,
 use Rattle.kinds.specs.Weights.{Weights}
 use Rattle.automata.specs.Automata.{Transition}
 use Rattle.automata.specs.Merging.{Grouping}
-use Rattle.reduction.specs.Renaming.{renamed, taken, added}
+use Rattle.reduction.specs.Renaming.{renamed, taken}
 use Rattle.reduction.proofs.Additions.{after, merged-rules, merged-push}
 
 -- xs is how the rules began, and ys how they are; f says what a rule stands for

@@ -12,7 +12,7 @@ use Rattle.automata.specs.Trees.{rank}
 use Rattle.automata.specs.Automata.{Transition}
 use Rattle.automata.specs.Pushing.{undone}
 use Rattle.automata.specs.Merging.{all-in, keeps, relabelled}
-use Rattle.std.proofs.shelf.Tests.{and-from}
+use Rattle.std.proofs.shelf.Tests.{and-from, and-right}
 use Rattle.rules.specs.declared.rule.Rule.{Rule}
 use Rattle.rules.specs.declared.place.Place.{Place}
 use Rattle.rules.specs.Shapes.{transition}
@@ -31,6 +31,14 @@ classes-some c qs ps e = at (all-in (member-in c) qs) refl e
     at true h k = (h, cc)
     at false h k = let z : _≡_ {A = ℕ} 0 1 = cc in absurd (omega arith)
 
+-- a state among them is dropped
+classes-none : (c : Classes) (qs : List ℕ) → None ≡ classes-of c qs → all-in (member-in c) qs ≡ false
+classes-none c qs e = at (all-in (member-in c) qs) refl e
+  where
+    at : (b : Bool) → all-in (member-in c) qs ≡ b → None ≡ cond b (Some (map (class-in c) qs)) None → all-in (member-in c) qs ≡ false
+    at true h k = let z : _≡_ {A = ℕ} 0 1 = cc in absurd (omega arith)
+    at false h k = h
+
 module _ {V W : Type 0} (stands : V → W) (K : Weights W) (c : Classes) (work : List (Place V)) (ranks : List ℕ) (r : Rule V) (n : ℕ) (fits : n ≡ rank ranks (r .left .symbol)) where
   abbrev f : ℕ → W
   f = factor-at stands K work
@@ -46,3 +54,9 @@ module _ {V W : Type 0} (stands : V → W) (K : Weights W) (c : Classes) (work :
       let weighs : stands v ≡ relabelled K G t .weight = weight ∙ ap (λ k. K .times (K .times (stands (r .weight)) (f (r .target))) (undone K f (take k (r .left .children)))) fits in
       ap Some (transition-is (both .1) class weighs)
       ∙ sym (ap (λ b. cond b (Some (relabelled K G t)) None) stays)
+
+  pub renamed-lacks : None ≡ classes-of c (take n (r .left .children)) → None ≡ renamed K (grouping stands K c work) (transition stands ranks r)
+  renamed-lacks children =
+      let t = transition stands ranks r in
+      let lacks : all-in (member-in c) (t .children) ≡ false = classes-none c (t .children) (subst (λ (k : ℕ). None ≡ classes-of c (take k (r .left .children))) fits children) in
+      sym (ap (λ b. cond b (Some (relabelled K (grouping stands K c work) t)) None) (and-right (member-in c (r .target)) (all-in (member-in c) (t .children)) lacks))

@@ -1,6 +1,6 @@
--- What a merge makes of one rule, and how it goes to those that are kept.
+-- What a merge makes of one rule, and whether its left side is taken.
 use mathlib.Core.Bool.{Bool, cond}
-use mathlib.Core.List.{List, [], _∷_, _++_, map}
+use mathlib.Core.List.{List, map}
 use Prim.Native.Nat.{ℕ}
 use Rattle.std.specs.Options.{isSome}
 use Rattle.std.specs.declared.option.Option.{Option}
@@ -22,7 +22,3 @@ renamed K G t = cond (keeps (G .member) t) (Some (relabelled K G t)) None
 -- one of the rules has the left side of t
 abbrev pub taken : {W : Type 0} → List (Transition W) → Transition W → Bool
 taken rs t = isSome (find rs (t .symbol) (t .children))
-
--- t after the rules, unless one of them has its left side
-abbrev pub added : {W : Type 0} → List (Transition W) → Transition W → List (Transition W)
-added rs t = cond (taken rs t) rs (rs ++ t ∷ [])

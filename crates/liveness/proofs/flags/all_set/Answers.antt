@@ -1,13 +1,10 @@
 use mathlib.Core.Path.{_≡_, sym, ap, _∙_}
-use mathlib.Core.Bool.{Bool, false}
-use mathlib.Core.List.{List}
-use Prim.Native.Nat.{ℕ, _<_}
+use mathlib.Core.Bool.{false}
 use native.Mathlib.Omega.{arith}
 use borrow.Author.Count.{below-more}
 use lib.ListN.{getD}
 use Rattle.automata.specs.Trees.{rank}
 use Rattle.rules.specs.Shapes.{ranks-in}
-use Rattle.liveness.specs.Listings.{Flagged}
 use Rattle.liveness.proofs.Children.{one-unset, each-set}
 use Rattle.liveness.proofs.flags.all_set.Needs as need
 

@@ -1,13 +1,11 @@
-use mathlib.Core.Path.{_≡_, refl, sym, subst}
-use mathlib.Core.List.{List}
-use Prim.Native.Nat.{ℕ, _≤_}
+use mathlib.Core.Path.{subst}
+use Prim.Native.Nat.{ℕ}
 use native.Mathlib.Omega.{arith}
-use lib.ListN.{length}
 use Rattle.std.proofs.shelf.Lists.{length-map}
 use Rattle.std.proofs.shelf.Tests.{ltb-true, ltb-false}
 use Rattle.rules.specs.Shapes.{ranks-in, states-in, transition, automaton}
 use Rattle.liveness.specs.Reaching.{Follows, Tried}
-use Rattle.liveness.proofs.Derivations.{Rising, nth-mapped, tried-more, has-below}
+use Rattle.liveness.proofs.Derivations.{nth-mapped, tried-more, has-below}
 use Rattle.liveness.proofs.upward.pass_up.Needs as need
 
 pub loop-i-holds : need.loop-i-holds

@@ -1,4 +1,4 @@
-use mathlib.Core.Path.{_≡_, refl, sym, _∙_}
+use mathlib.Core.Path.{refl, sym}
 use mathlib.Core.Bool.{false}
 use mathlib.Core.Logic.{inl, inr}
 use Prim.Native.Nat.{_<_}
@@ -26,8 +26,11 @@ returns-then-all-set c =
 pub returns-else-target-states : need.returns-else-target-states
 returns-else-target-states c =
     elim (c .else-target-states .came) [
-      else-target-states·by·then-target-states·then-not-is-set·else-all-set w ↦ inl (refl, λ all new.
-        absurd (both-ways (all-in (λ q. getD (c .args .found .now .reached) q false) (children-in (c .args .shape .now) (c .args .left .now))) (sym (w .if-all-set .ensures tt)) (all-all-in (λ q. getD (c .args .found .now .reached) q false) (children-in (c .args .shape .now) (c .args .left .now)) all)))
-    | else-target-states·by·then-target-states·else-not-is-set w ↦ inl (refl, λ all new. sym (w .if-not-is-set .ensures tt))
-    | else-target-states·by·else-target-states w ↦ inl (refl, λ all new. absurd (omega (arith, w .if-target-states .left)))
+      | else-target-states·by·then-target-states·then-not-is-set·else-all-set w ↦ inl (
+        refl,
+        λ all new.
+            absurd (both-ways (all-in (λ q. getD (c .args .found .now .reached) q false) (children-in (c .args .shape .now) (c .args .left .now))) (sym (w .if-all-set .ensures tt)) (all-all-in (λ q. getD (c .args .found .now .reached) q false) (children-in (c .args .shape .now) (c .args .left .now)) all)),
+      )
+      | else-target-states·by·then-target-states·else-not-is-set w ↦ inl (refl, λ all new. sym (w .if-not-is-set .ensures tt))
+      | else-target-states·by·else-target-states w ↦ inl (refl, λ all new. absurd (omega (arith, w .if-target-states .left)))
     ]
