@@ -39,7 +39,7 @@ module _ (ranks : List ℕ) where
       ∙ ap (λ ts. getD ts k d) (grown-append [] (take i ns) (drop i ns))
       ∙ grown-keeps (trees-of ranks (take i ns)) (drop i ns) k d (omega (arith, trees-length (take i ns), length-take-le i ns h))
 
-  row-front : (ts us : List Tree) (i : ℕ) (cs : List ℕ) → ((k : ℕ) → k < i → getD ts k (node 0 none) ≡ getD us k (node 0 none)) → All (λ c. c < i) cs → row-of ts cs ≡ row-of us cs
+  pub row-front : (ts us : List Tree) (i : ℕ) (cs : List ℕ) → ((k : ℕ) → k < i → getD ts k (node 0 none) ≡ getD us k (node 0 none)) → All (λ c. c < i) cs → row-of ts cs ≡ row-of us cs
   row-front ts us i [] same all = refl
   row-front ts us i (c ∷ cs) same all = λ j. same c (all .0) j ▹ row-front ts us i cs same (all .1) j
 
