@@ -1,4 +1,7 @@
 // The refusals of the table layer; each has a fixed number.
+ghost use mathlib.Core.Path.{_≡_};
+ghost use Rattle.trees.specs.Refusals.{refusal-number};
+
 #[derive(Clone, Copy, PartialEq, Eq, Debug)]
 pub enum Refusal {
     // no rank, more than 32, or one above 4
@@ -23,4 +26,25 @@ pub enum Refusal {
     Alphabets,
     // a tree list or a work list is too short
     Short,
+}
+
+impl Refusal {
+    // the number by which a page names the refusal
+    pub fn number(&self) -> u8
+        ensures { λ r. ⌜ r ≡ refusal-number (now (self .entry)) ⌝ }
+    {
+        match self {
+            Refusal::Ranks => 1,
+            Refusal::States => 2,
+            Refusal::State => 3,
+            Refusal::Symbol => 4,
+            Refusal::Children => 5,
+            Refusal::Taken => 6,
+            Refusal::Full => 7,
+            Refusal::Accepting => 9,
+            Refusal::TreeList(_) => 10,
+            Refusal::Alphabets => 11,
+            Refusal::Short => 12,
+        }
+    }
 }
