@@ -1,2 +1,0 @@
-pub mod Forest
-pub mod Differing
