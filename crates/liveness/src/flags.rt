@@ -16,7 +16,7 @@ pub fn is_set(flags: &[bool; 48], state: usize) -> bool
 }
 
 // The state in a child place.
-pub fn child(left: &LeftSide, place: usize) -> usize
+pub(crate) fn child(left: &LeftSide, place: usize) -> usize
     requires { ⌜ place < 4 ⌝ }
     ensures state { λ r. ⌜ r ≡ getD (now (left .entry) .children) place 0 ⌝ }
     ensures four { λ _. ⌜ length (now (left .entry) .children) ≡ 4 ⌝ }

@@ -39,7 +39,7 @@ fn undo_all<W: Kind>(weight: W, work: &[Place<W>], children: &[u8]) -> W
 }
 
 // The weight of a rule after the push: times the factor of its target and the inverse of the factor at each child place.
-pub fn pushed_weight<W: Kind>(rule: &Rule<W>, rank: usize, work: &[Place<W>]) -> W
+pub(crate) fn pushed_weight<W: Kind>(rule: &Rule<W>, rank: usize, work: &[Place<W>]) -> W
     requires { ⌜ rank ≤ 4 ⌝ }
     ensures { λ r. ⌜ W·Kind .stands r ≡ W·Kind .weights .times (W·Kind .weights .times (W·Kind .stands (now (rule .entry) .weight)) (factor-at (W·Kind .stands) (W·Kind .weights) (now (work .entry)) (now (rule .entry) .target))) (undone (W·Kind .weights) (factor-at (W·Kind .stands) (W·Kind .weights) (now (work .entry))) (take rank (now (rule .entry) .left .children))) ⌝ }
 {
