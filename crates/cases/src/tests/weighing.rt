@@ -131,6 +131,7 @@ fn refused_weighings(rt: LibcRuntime) -> Result<(), Fail> {
         node: leaf(77),
         first: None,
         second: None,
+        mark: 0,
     };
     let mut work = vec![in rt.alloc(); mark; 2]?;
     // the child of the last entry, the places, the answer, and how many marks are left:
