@@ -1,9 +1,9 @@
 -- Weighing alike is an equivalence relation, and carries the fewest states along.
 use Rattle.std.proofs.Common.{◌≡◌, ℕ, ◌≤◌, List, sym, refl, ◌∙◌, subst}
 use Rattle.kinds.specs.Weights.{Weights}
-use Rattle.automata.specs.Trees.{Tree, Over}
+use Rattle.automata.specs.Trees.{Over}
 use Rattle.automata.specs.Automata.{Automaton}
-use Rattle.automata.specs.Runs.{weight_of, Alike, Minimal}
+use Rattle.automata.specs.Runs.{Alike, Minimal}
 
 module _ {W : Type 0} (K : Weights W) where
   pub alike_refl : (A : Automaton W) → Alike K A A

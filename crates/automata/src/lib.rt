@@ -1,4 +1,6 @@
-// The mathematics of bottom-up deterministic weighted tree automata. A function here stands for a theorem: its contract states it.
+//! The mathematics of bottom-up deterministic weighted tree automata. A function here stands for a theorem: its contract states it.
+#![tactic(auto)]
+
 ghost use Rattle.std.specs.Prelude.{ℕ, Bool};
 ghost use Rattle.automata.specs.Automata.{Automaton, Sound};
 ghost use Rattle.automata.specs.Pushing.{Plugging, Pushing};

@@ -1,4 +1,6 @@
-// Tests of the table calls at their limits and at known values, and what the tests share.
+//! Tests of the table calls at their limits and at known values, and what the tests share.
+#![tactic(auto)]
+
 ghost use Rattle.std.specs.Prelude.{◌≡◌, ◌+◌, [], ◌∷◌, IfOk, vec_len};
 ghost use Rattle.cases.specs.Answered.{done_number, answer};
 

@@ -1,4 +1,5 @@
-// Comparing two tables.
+//! Comparing two tables.
+#![tactic(auto)]
 
 mod access;
 mod accessing;

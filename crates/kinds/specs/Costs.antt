@@ -3,7 +3,7 @@ use Rattle.std.specs.Prelude.{◌≡◌, ℤ, pos, ◌+ℤ◌, ◌≤ℤ◌}
 use Rattle.std.proofs.Common.{ap, sym, ◌∙◌, arith}
 use mathlib.Core.HLevel.{is_prop→PathP}
 use Rattle.std.proofs.Math.IntN.{+ℤ_comm}
-use denote.Struct.Props.{≤ℤ_prop}
+use Rattle.std.proofs.Props.{props}
 use Rattle.std.specs.Int.{int_wrap, w32}
 use Rattle.std.proofs.lemmas.Int.{ints}
 use Rattle.kinds.specs.declared.cost.Cost.{Cost}
@@ -22,8 +22,8 @@ cost_code z h = stays z h
 pub cost_path : (a b : Cost) → a.code ≡ b.code → a ≡ b
 cost_path a b p = λ i. record {
   code = p i;
-  low = is_prop→PathP (λ j. least ≤ℤ p j) (λ j. ≤ℤ_prop) a.low b.low i;
-  high = is_prop→PathP (λ j. p j ≤ℤ greatest) (λ j. ≤ℤ_prop) a.high b.high i;
+  low = is_prop→PathP (λ j. least ≤ℤ p j) (λ j. hlevel props) a.low b.low i;
+  high = is_prop→PathP (λ j. p j ≤ℤ greatest) (λ j. hlevel props) a.high b.high i;
 }
 
 cost_range : (a : Cost) → InRange a.code

@@ -1,4 +1,5 @@
-// Kinds of weight: the trait with its laws, and the three kinds that pages name.
+//! Kinds of weight: the trait with its laws, and the three kinds that pages name.
+#![tactic(auto)]
 
 mod cost;
 mod kind;

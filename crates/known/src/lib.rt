@@ -1,4 +1,6 @@
-// Known cases of the definitions, and a round of calls that shows what the whole promise says.
+//! Known cases of the definitions, and a round of calls that shows what the whole promise says.
+#![tactic(auto)]
+
 ghost use Rattle.std.specs.List.{AllByRecursion as All};
 ghost use Rattle.known.specs.Cases.{Holds, cases};
 

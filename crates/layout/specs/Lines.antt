@@ -1,6 +1,7 @@
 -- The bytes of a line, by what it says.
 use Rattle.std.specs.Prelude.{◌≡◌, ℕ, ◌<◌, ◌≤◌, List, [], ◌∷◌, ◌++◌, length, drop, Some, None, Option, ◌≢◌}
 use Rattle.std.specs.List.{AllByRecursion as All}
+use Rattle.std.proofs.Common.{Bor}
 use Rattle.layout.specs.declared.line.Line.{Line}
 use Rattle.layout.specs.declared.line.Line.TheVariants.{Kind, Table, Accept, Rule, End}
 use Rattle.layout.specs.declared.reading.Reading.{Reading}
@@ -38,9 +39,9 @@ pub record Begins (bytes : List ℕ) (e : Entry) (rest : List ℕ) : Type 0 wher
 -- a line as it was read, its parts still bytes, says the entry
 pub data Says : Line → Entry → Type 0 where
   says_kind : (n : ℕ) → Says (Kind n) (kind n)
-  says_table : (n : ℕ) (part : _) (ranks : List ℕ) → part.now ≡ fields ranks → Says (Table n part) (table n ranks)
+  says_table : (n : ℕ) (part : Bor (List ℕ)) (ranks : List ℕ) → part.now ≡ fields ranks → Says (Table n part) (table n ranks)
   says_accept : (q : ℕ) → Says (Accept q) (accept q)
-  says_rule : (s t : ℕ) (weight part : _) (qs : List ℕ) → part.now ≡ fields qs → Says (Rule s t weight part) (rule s t weight.now qs)
+  says_rule : (s t : ℕ) (weight part : Bor (List ℕ)) (qs : List ℕ) → part.now ≡ fields qs → Says (Rule s t weight part) (rule s t weight.now qs)
   says_end : Says End end
 
 -- the line at a place of the page and where the next begins, if there is one in the layout

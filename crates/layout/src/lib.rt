@@ -1,4 +1,5 @@
-// The layout of a page: the bytes of its fields and lines.
+//! The layout of a page: the bytes of its fields and lines.
+#![tactic(auto)]
 
 mod fields;
 mod line;

@@ -1,4 +1,5 @@
-// The reachable and the live states of a table: which they are, how each is reached, and how each is led on to acceptance.
+//! The reachable and the live states of a table: which they are, how each is reached, and how each is led on to acceptance.
+#![tactic(auto)]
 
 mod downward;
 mod flags;

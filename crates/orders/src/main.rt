@@ -1,4 +1,6 @@
-// Weighs two readings of one purchase order, and prints the better one first.
+//! Weighs two readings of one purchase order, and prints the better one first.
+#![tactic(auto)]
+
 mod choice;
 mod costs;
 mod fault;

@@ -1,4 +1,5 @@
-// Pages: two tables in one text, and the answer to it.
+//! Pages: two tables in one text, and the answer to it.
+#![tactic(auto)]
 
 mod answering;
 mod at;

@@ -1,4 +1,5 @@
-// Tables with a cell for each pair of states.
+//! Tables with a cell for each pair of states.
+#![tactic(auto)]
 
 mod pair_flags;
 mod pair_numbers;

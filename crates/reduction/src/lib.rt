@@ -1,4 +1,5 @@
-// Reduction of a table, on plain slices of rules.
+//! Reduction of a table, on plain slices of rules.
+#![tactic(auto)]
 
 mod acceptance;
 mod analysing;

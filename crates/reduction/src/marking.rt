@@ -84,7 +84,8 @@ pub(crate) fn first_marks<W: Kind>(shape: &Shape, rules: &[Rule<W>], life: &Life
 {
     let mut marks = accept_marks(shape, &life.live);
     mark_lone(shape, rules, &life.live, &mut marks);
-    settle(shape, rules, &life.live, false, &[], &mut marks);
+    let factors: [Place<W>; 0] = [];
+    settle(shape, rules, &life.live, false, &factors, &mut marks);
     marks
 }
 

@@ -1,4 +1,6 @@
-// Answers the page on standard input.
+//! Answers the page on standard input.
+#![tactic(auto)]
+
 mod fault;
 
 use fault::Fault;

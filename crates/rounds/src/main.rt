@@ -1,4 +1,6 @@
-// Generates large tables, reduces them, compares, and deletes the large ones. What it writes to standard error are times.
+//! Generates large tables, reduces them, compares, and deletes the large ones. What it writes to standard error are times.
+#![tactic(auto)]
+
 mod fault;
 mod form;
 mod generating;

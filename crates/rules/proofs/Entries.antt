@@ -1,12 +1,11 @@
 -- Running the entries of a tree list in order gives the run of each entry's tree.
-use Rattle.std.proofs.Common.{◌≡◌, ℕ, ◌+◌, ◌<◌, ◌≤◌, List, [], ◌∷◌, map, length, get_or, set, Some, sym, refl, ap, ◌∙◌, ap₂, ⊎_elim, arith}
-use Rattle.std.specs.Option.{option_map}
+use Rattle.std.proofs.Common.{◌≡◌, ℕ, ◌+◌, ◌<◌, List, [], ◌∷◌, map, length, get_or, set, Some, sym, refl, ap, ◌∙◌, ap₂, ⊎_elim, arith}
 use Rattle.std.specs.List.{AllByRecursion as All}
 use Rattle.std.proofs.lemmas.Bool.{cases_eq}
 use Rattle.kinds.specs.Weights.{Weights}
-use Rattle.automata.specs.Trees.{Tree, Row, node, none, ◌▹◌, rank}
+use Rattle.automata.specs.Trees.{Tree, node, none}
 use Rattle.automata.specs.Automata.{Automaton}
-use Rattle.automata.specs.Runs.{At, beside, step, run, runs}
+use Rattle.automata.specs.Runs.{beside, step, run, runs}
 use Rattle.trees.specs.declared.node.Node.{Node}
 use Rattle.trees.specs.Lists.{blank, children_of, GoodAt, row_of, trees_of, tree_at}
 use Rattle.trees.proofs.Entries.{tree_entry, children_earlier}

@@ -1,10 +1,10 @@
 -- The look-up in a table's memory is the look-up among the automaton's rules.
-use Rattle.std.proofs.Common.{◌≡◌, ℕ, suc, ◌<◌, Bool, true, false, cond, ◌&&◌, eqb, List, [], ◌∷◌, map, length, take, Some, None, Option, sym, refl, ap, ◌∙◌, arith}
+use Rattle.std.proofs.Common.{◌≡◌, ℕ, suc, Bool, true, false, cond, ◌&&◌, eqb, List, [], ◌∷◌, map, length, take, Some, None, Option, sym, refl, ap, ◌∙◌}
 use Rattle.std.specs.Option.{option_map}
 use Rattle.std.specs.List.{slice_get}
 use Rattle.std.proofs.lemmas.Bool.{eqb-true}
 use Rattle.automata.specs.Trees.{rank}
-use Rattle.automata.specs.Automata.{Transition, same_list, fits_left, find}
+use Rattle.automata.specs.Automata.{same_list, fits_left, find}
 use Rattle.rules.specs.declared.rule.Rule.{Rule}
 use Rattle.rules.specs.Lookup.{has_left, position}
 use Rattle.rules.specs.Shapes.{transition}

@@ -1,5 +1,5 @@
 -- The book of a table: what it must mean, kept from its calls alone, and what accept and add do to it.
-use Rattle.std.specs.Prelude.{◌≡◌, ℕ, min, Bool, true, false, cond, not, ◌&&◌, ltb, List, [], ◌∷◌, ◌++◌, length, take, is_some, ◌==◌, nat_le, nat_lt}
+use Rattle.std.specs.Prelude.{◌≡◌, ℕ, min, true, false, cond, not, ◌&&◌, ltb, List, [], ◌∷◌, ◌++◌, length, take, is_some, ◌==◌, nat_le, nat_lt}
 use Rattle.automata.specs.Trees.{rank}
 use Rattle.automata.specs.Automata.{Transition, Automaton, find}
 use Rattle.automata.specs.Merging.{all_in}

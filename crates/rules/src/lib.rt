@@ -1,4 +1,5 @@
-// Rules and shapes of tables, on plain structs and slices.
+//! Rules and shapes of tables, on plain structs and slices.
+#![tactic(auto)]
 
 mod adding;
 mod blank;

@@ -1,4 +1,5 @@
-// Drafts and closed tables, and their calls.
+//! Drafts and closed tables, and their calls.
+#![tactic(auto)]
 
 mod closed;
 mod draft;

@@ -1,9 +1,9 @@
 -- The tree of an entry is its symbol over the trees of its children.
 use Rattle.std.proofs.Common.{◌≡◌, ℕ, zero, suc, ◌+◌, ◌<◌, ◌≤◌, List, [], ◌∷◌, ◌++◌, length, get_or, take, drop, sym, refl, ap, ◌∙◌, arith}
 use Rattle.std.specs.List.{AllByRecursion as All}
-use Rattle.std.proofs.lemmas.List.{append_assoc, length-append, length-take, length-take-le, get_or_append_left, get_or_push, get_or-take, drop_more, take-append-drop}
+use Rattle.std.proofs.lemmas.List.{length-append, length-take, length-take-le, get_or_append_left, get_or_push, get_or-take, drop_more, take-append-drop}
 use Rattle.std.proofs.ByRecursion.{All-from_get_or}
-use Rattle.automata.specs.Trees.{Tree, Row, node, none, ◌▹◌, size, rank, Over, Overs}
+use Rattle.automata.specs.Trees.{Tree, node, none, ◌▹◌, size, rank, Over, Overs}
 use Rattle.trees.specs.declared.node.Node.{Node}
 use Rattle.trees.specs.Lists.{blank, children_of, Good, GoodAt, row_of, grown, trees_of, tree_at}
 

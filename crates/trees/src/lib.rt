@@ -1,4 +1,5 @@
-// Alphabets, and trees as lists of nodes.
+//! Alphabets, and trees as lists of nodes.
+#![tactic(auto)]
 
 mod alphabet;
 mod checks;

@@ -7,7 +7,7 @@ use Rattle.automata.proofs.examples.equivalence_example.Goals as goal
 
 pub returns : goal.returns
 returns c =
-    let e = c.equivalence-stands.ensures four four_sound in
+    let e = c.equivalence_stands.ensures four four_sound in
     let two = residue 2 tt tt in
     record {
       twice = zero_one;

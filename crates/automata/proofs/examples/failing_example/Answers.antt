@@ -15,7 +15,7 @@ apart v w n e = n (ap (λ x. x.code) e)
 
 pub returns : goal.returns
 returns c =
-    let failing = c.failing-stands.ensures in
+    let failing = c.failing_stands.ensures in
     let first = chain (residue 4 tt tt) (residue 8 tt tt) in
     let other = chain (residue 2 tt tt) (residue 15 tt tt) in
     let t = above 1 (constant 0) in

@@ -8,7 +8,7 @@ use Rattle.automata.proofs.examples.first_round_example.Goals as goal
 
 pub returns : goal.returns
 returns c =
-    let f = c.first-round-stands.ensures four member marks four_sound member_live in
+    let f = c.first_round_stands.ensures four member marks four_sound member_live in
     record {
       same = f.complete marks_symmetric first_rest 0 1 refl refl refl;
       apart = f.truthful marks_signs 0 2 refl refl (acceptance false≢true);

@@ -10,7 +10,7 @@ use Rattle.automata.proofs.examples.merging_example.Goals as goal
 
 pub returns : goal.returns
 returns c =
-    let m = c.merging-stands.ensures four whole_grouping four_sound whole_admissible in
+    let m = c.merging_stands.ensures four whole_grouping four_sound whole_admissible in
     let alike : Alike residues four (merged residues whole_grouping four) = m.alike_whole (λ q. lt-ltb q 4) in
     record {
       states = refl;

@@ -8,5 +8,5 @@ pub returns : goal.returns
 returns c = record {
   runs = ap (λ w. Some (record { state = 0; weight = w })) (residue_path _ _ refl);
   gives = ap Some (residue_path _ _ refl);
-  weighs = c.plugging-stands.ensures four (above_context 2 hole) (constant 0) ∙ ap Some (residue_path _ _ refl);
+  weighs = c.plugging_stands.ensures four (above_context 2 hole) (constant 0) ∙ ap Some (residue_path _ _ refl);
 }

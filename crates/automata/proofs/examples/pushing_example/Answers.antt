@@ -9,7 +9,7 @@ use Rattle.automata.proofs.examples.pushing_example.Goals as goal
 
 pub returns : goal.returns
 returns c =
-    let p = c.pushing-stands.ensures four factor in
+    let p = c.pushing_stands.ensures four factor in
     let alike : Alike residues four (pushed residues factor four) = p.alike factor_one in
     record {
       gains = p.run_gains (constant 0) ∙ ap (λ w. Some (record { state = 0; weight = w })) (residue_path _ _ refl);

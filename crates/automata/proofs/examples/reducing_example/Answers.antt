@@ -9,7 +9,7 @@ use Rattle.automata.proofs.examples.reducing_example.Goals as goal
 
 pub returns : goal.returns
 returns c =
-    let r = c.reducing-stands.ensures four grouping four_sound four_grouped in
+    let r = c.reducing_stands.ensures four grouping four_sound four_grouped in
     let h : Admissible residues four grouping = r.admissible four_quotients in
     let alike : Alike residues four (merged residues grouping four) = r.alike h in
     record {
@@ -17,6 +17,6 @@ returns c =
       rules = refl;
       alike = alike;
       minimal = r.minimal h;
-      before = λ least. let l : 4 ≤ 2 = least (merged residues grouping four) (c.merging-stands.ensures four grouping four_sound h).sound alike in omega arith;
+      before = λ least. let l : 4 ≤ 2 = least (merged residues grouping four) (c.merging_stands.ensures four grouping four_sound h).sound alike in omega arith;
       weighs = sym (alike.weights (above 2 (constant 1)) (four_over 1 (omega arith))) ∙ ap Some (residue_path _ _ refl);
     }

@@ -9,7 +9,7 @@ pub returns : goal.returns
 returns c =
     let first = chain (residue 4 tt tt) (residue 8 tt tt) in
     let second = chain (residue 2 tt tt) (residue 16 tt tt) in
-    let same : Alike residues first second = c.same-by-exploring-stands.ensures first second side_by_side refl chains_explored in
+    let same : Alike residues first second = c.same_by_exploring_stands.ensures first second side_by_side refl chains_explored in
     record {
       same = same;
       weighs = sym (same.weights (above 1 (constant 0)) chain_over) ∙ ap Some (residue_path _ _ refl);

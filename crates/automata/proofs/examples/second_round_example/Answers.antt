@@ -13,7 +13,7 @@ use Rattle.automata.proofs.examples.second_round_example.Goals as goal
 pub returns : goal.returns
 returns c =
     let true_marks : TrueMarks residues four marks = signs_marks residues four marks marks_signs in
-    let s = c.second-round-stands.ensures four member marks factor marks four_sound member_live true_marks factors_chosen in
+    let s = c.second_round_stands.ensures four member marks factor marks four_sound member_live true_marks factors_chosen in
     record {
       same = subst (λ a. Equivalent residues four a 0 1) (residue_path _ _ refl) (s.complete marks_symmetric (λ q l. factor_one q) second_rest 0 1 refl refl refl);
       apart = s.truthful true_marks 0 2 refl refl (as_first (acceptance false≢true));

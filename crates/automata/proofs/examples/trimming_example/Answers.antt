@@ -8,7 +8,7 @@ use Rattle.automata.proofs.examples.trimming_example.Goals as goal
 
 pub returns : goal.returns
 returns c =
-    let alike : Alike residues four (dropped member four) = c.trimming-stands.ensures four member four_sound member_live in
+    let alike : Alike residues four (dropped member four) = c.trimming_stands.ensures four member four_sound member_live in
     record {
       before = refl;
       after = refl;

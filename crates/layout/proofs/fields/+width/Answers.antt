@@ -2,8 +2,8 @@ use Rattle.std.proofs.Common.{◌+◌, ap, ◌∙◌, arith}
 use Rattle.layout.proofs.Digits.{width_one, width_more, width_bound}
 use Rattle.layout.proofs.fields.+width.Goals as goal
 
-pub overflow-add-result : goal.overflow-add-result
-overflow-add-result t c = record { fits = omega (arith, width_more c.args.number c.if-number-lt10.false c.ranges.number.fits, width_bound c.args.number c.ranges.number.fits) }
+pub overflow_add-result : goal.overflow_add-result
+overflow_add-result t c = record { fits = omega (arith, width_more c.args.number c.if-number-lt10.false c.ranges.number.fits, width_bound c.args.number c.ranges.number.fits) }
 
 pub returns-then-number-lt10 : goal.returns-then-number-lt10
 returns-then-number-lt10 t c = width_one c.args.number c.if-number-lt10.true

@@ -6,7 +6,7 @@ pub loop-init : goal.loop-init
 loop-init c = sym (append-nil (vec_items c.args.out.now))
 
 pub loop-preserved : goal.loop-preserved
-loop-preserved c = blanks_written (vec_items c.args.out.now) (vec_items c.loop.out) _ c.loop.counter c.loop.invariant c.in-ok-push.ensures.items
+loop-preserved c = blanks_written (vec_items c.args.out.now) (vec_items c.loop.out) _ c.loop.counter c.loop.invariant c.in_ok-push.ensures.items
 
 pub returns : goal.returns
 returns c =

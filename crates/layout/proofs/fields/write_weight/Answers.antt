@@ -5,6 +5,6 @@ use Rattle.layout.proofs.fields.write_weight.Goals as goal
 
 pub returns : goal.returns
 returns c =
-    let fits : SFits w64 c.code-numbers-found.result.1 = search rules in
-    weight_written c.write-end.result _ _ _ _ _ _ c.args.table _ _ _ c.args.code c.code-numbers-found.ensures (to_z-of_z w64 c.code-numbers-found.result.1 fits)
-    c.in-ok-push.ensures.items c.in-ok-write-number.ensures c.in-ok-write-number-2.ensures c.in-ok-write-field.ensures c.write-end.ensures
+    let fits : SFits w64 c.code_numbers-found.result.1 = search rules in
+    weight_written c.write_end.result _ _ _ _ _ _ c.args.table _ _ _ c.args.code c.code_numbers-found.ensures (to_z-of_z w64 c.code_numbers-found.result.1 fits)
+    c.in_ok-push.ensures.items c.in_ok-write_number.ensures c.in_ok-write_number-2.ensures c.in_ok-write_field.ensures c.write_end.ensures

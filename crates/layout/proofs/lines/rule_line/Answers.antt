@@ -4,28 +4,28 @@ use Rattle.layout.proofs.Decided.{fails}
 use Rattle.layout.proofs.Entries.{rule_found, rule_none}
 use Rattle.layout.proofs.lines.rule_line.Goals as goal
 
-pub returns-then-not-rule-sized : goal.returns-then-not-rule-sized
-returns-then-not-rule-sized c =
+pub returns-then-not-rule_sized : goal.returns-then-not-rule_sized
+returns-then-not-rule_sized c =
     rule_none c.args.text.now c.requires (λ s t weight qs short-s short-t all cuts.
-    fails c.rule-sized.result c.rule-sized.ensures c.if-not-rule-sized.true cuts.sized)
+    fails c.rule_sized.result c.rule_sized.ensures c.if-not-rule_sized.true cuts.sized)
 
-pub returns-in-err-symbol : goal.returns-in-err-symbol
-returns-in-err-symbol c =
-    rw c.from-residual.ensures
-    (rule_none c.args.text.now c.requires (λ s t weight qs short-s short-t all cuts. c.in-err-symbol.ensures s short-s (c.columns.ensures ∙ cuts.symbol)))
+pub returns-in_err-symbol : goal.returns-in_err-symbol
+returns-in_err-symbol c =
+    rw c.from_residual.ensures
+    (rule_none c.args.text.now c.requires (λ s t weight qs short-s short-t all cuts. c.in_err-symbol.ensures s short-s (c.columns.ensures ∙ cuts.symbol)))
 
-pub returns-in-err-target : goal.returns-in-err-target
-returns-in-err-target c =
-    rw c.from-residual-in-err-target.ensures
-    (rule_none c.args.text.now c.requires (λ s t weight qs short-s short-t all cuts. c.in-err-target.ensures t short-t (c.columns-2.ensures ∙ cuts.target)))
+pub returns-in_err-target : goal.returns-in_err-target
+returns-in_err-target c =
+    rw c.from_residual-in_err-target.ensures
+    (rule_none c.args.text.now c.requires (λ s t weight qs short-s short-t all cuts. c.in_err-target.ensures t short-t (c.columns-2.ensures ∙ cuts.target)))
 
-pub returns-then-are-numbers : goal.returns-then-are-numbers
-returns-then-are-numbers c =
-    rule_found c.args.text.now c.columns.result.now c.columns-2.result.now c.in-ok-symbol.symbol c.in-ok-target.target _ _
-    c.requires (c.rule-sized.ensures.0 c.if-not-rule-sized.false) c.columns.ensures c.in-ok-symbol.ensures c.columns-2.ensures c.in-ok-target.ensures
-    refl (take_rest c.args.text.now 25) (c.are-numbers.ensures.0 c.if-are-numbers.true)
+pub returns-then-are_numbers : goal.returns-then-are_numbers
+returns-then-are_numbers c =
+    rule_found c.args.text.now c.columns.result.now c.columns-2.result.now c.in_ok-symbol.symbol c.in_ok-target.target _ _
+    c.requires (c.rule_sized.ensures.0 c.if-not-rule_sized.false) c.columns.ensures c.in_ok-symbol.ensures c.columns-2.ensures c.in_ok-target.ensures
+    refl (take_rest c.args.text.now 25) (c.are_numbers.ensures.0 c.if-are_numbers.true)
 
-pub returns-else-are-numbers : goal.returns-else-are-numbers
-returns-else-are-numbers c =
+pub returns-else-are_numbers : goal.returns-else-are_numbers
+returns-else-are_numbers c =
     rule_none c.args.text.now c.requires (λ s t weight qs short-s short-t all cuts.
-    fails c.are-numbers.result c.are-numbers.ensures c.if-are-numbers.false (qs, all, take_rest c.args.text.now 25 ∙ cuts.others))
+    fails c.are_numbers.result c.are_numbers.ensures c.if-are_numbers.false (qs, all, take_rest c.args.text.now 25 ∙ cuts.others))

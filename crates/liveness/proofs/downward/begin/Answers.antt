@@ -5,7 +5,7 @@ use Rattle.liveness.specs.Listings.{Listed}
 use Rattle.liveness.specs.Living.{Noted}
 use Rattle.liveness.proofs.Onward.{Beginning, beginning_none, beginning_past, beginning_more}
 use Rattle.liveness.proofs.downward.begin.Goals as goal
-use Rattle.liveness.proofs.downward.begin.Goals.{then-is-accepting+then-is-set, else-is-accepting, else-is-accepting-via-then-is-accepting+else-is-set, else-is-accepting-via-else-is-accepting}
+use Rattle.liveness.proofs.downward.begin.Goals.{then-is_accepting+then-is_set, else-is_accepting, else-is_accepting-via-then-is_accepting+else-is_set, else-is_accepting-via-else-is_accepting}
 
 pub loop-q-init : goal.loop-q-init
 loop-q-init c = beginning_none c.args.shape.now c.args.reach.now
@@ -16,16 +16,16 @@ note-requires c =
 
 pub loop-q-preserved : goal.loop-q-preserved
 loop-q-preserved c =
-    elim c.if-is-accepting.branch [
-      | then-is-accepting+then-is-set w ↦ subst (λ L. Beginning c.args.shape.now c.args.reach.now L (c.loop-q.q + 1)) (sym w.life-is)
+    elim c.if-is_accepting.branch [
+      | then-is_accepting+then-is_set w ↦ subst (λ L. Beginning c.args.shape.now c.args.reach.now L (c.loop-q.q + 1)) (sym w.life-is)
           (beginning_more c.args.shape.now c.args.reach.now c.loop-q.life w.note.new.life c.loop-q.q 0 0 (omega arith) (omega arith) c.loop-q.invariant
-          (sym w.if-is-accepting.ensures, sym w.if-is-set.ensures)
+          (sym w.if-is_accepting.ensures, sym w.if-is_set.ensures)
           (subst (λ (n : ℕ). Noted n c.loop-q.q 0 0 c.loop-q.life w.note.new.life) c.states-states.ensures w.note.ensures))
-      | else-is-accepting w ↦ subst (λ L. Beginning c.args.shape.now c.args.reach.now L (c.loop-q.q + 1)) (sym w.life-is)
+      | else-is_accepting w ↦ subst (λ L. Beginning c.args.shape.now c.args.reach.now L (c.loop-q.q + 1)) (sym w.life-is)
           (beginning_past c.args.shape.now c.args.reach.now c.loop-q.life c.loop-q.q c.loop-q.invariant (λ a.
-          elim w.else-is-accepting.branch [
-            | else-is-accepting-via-then-is-accepting+else-is-set v ↦ both_ways (get_or c.args.reach.now.reached c.loop-q.q false) (sym v.if-is-set.ensures) a.1
-            | else-is-accepting-via-else-is-accepting v ↦ both_ways (accepts_in c.args.shape.now c.loop-q.q) (sym v.if-is-accepting.ensures) a.0
+          elim w.else-is_accepting.branch [
+            | else-is_accepting-via-then-is_accepting+else-is_set v ↦ both_ways (get_or c.args.reach.now.reached c.loop-q.q false) (sym v.if-is_set.ensures) a.1
+            | else-is_accepting-via-else-is_accepting v ↦ both_ways (accepts_in c.args.shape.now c.loop-q.q) (sym v.if-is_accepting.ensures) a.0
           ]))
     ]
 

@@ -7,4 +7,4 @@ loop-init g c = living_begun g.W.Kind.stands c.args.shape.now c.args.rules.now c
 
 pub returns : goal.returns
 returns g c =
-    lively (automaton g.W.Kind.stands c.args.shape.now c.args.rules.now) c.args.reach.now c.pass-down.new.life c.pass-down.ensures.living (c.pass-down.ensures.rest c.loop-test.false)
+    lively (automaton g.W.Kind.stands c.args.shape.now c.args.rules.now) c.args.reach.now c.pass_down.new.life c.pass_down.ensures.living (c.pass_down.ensures.rest c.loop-test.false)

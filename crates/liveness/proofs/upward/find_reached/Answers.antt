@@ -7,4 +7,4 @@ loop-init g c = reaching_none (automaton g.W.Kind.stands c.args.shape.now c.args
 
 pub returns : goal.returns
 returns g c =
-    record { listed = c.pass-up.ensures.reaching.0; derived = c.pass-up.ensures.reaching.1; closed = c.pass-up.ensures.rest c.loop-test.false }
+    record { listed = c.pass_up.ensures.reaching.0; derived = c.pass_up.ensures.reaching.1; closed = c.pass_up.ensures.rest c.loop-test.false }

@@ -9,15 +9,15 @@ use Rattle.liveness.proofs.upward.pass_up.Goals as goal
 pub loop-i-init : goal.loop-i-init
 loop-i-init g c = (record { reached = omega arith; order = omega arith; rule = omega arith }, c.requires, omega arith, λ e k h. absurd (omega arith))
 
-pub try-rule-requires : goal.try-rule-requires
-try-rule-requires g c = c.loop-i.invariant.1.0
+pub try_rule-requires : goal.try_rule-requires
+try_rule-requires g c = c.loop-i.invariant.1.0
 
 pub loop-i-preserved : goal.loop-i-preserved
 loop-i-preserved g c =
     let r = transition g.W.Kind.stands (ranks_in c.args.shape.now) c.index-rules-i.result in
-    tried_more (automaton g.W.Kind.stands c.args.shape.now c.args.rules.now) (omega arith) c.loop-i.found c.try-rule.new.found r c.loop-i.i c.args.found.now.count
+    tried_more (automaton g.W.Kind.stands c.args.shape.now c.args.rules.now) (omega arith) c.loop-i.found c.try_rule.new.found r c.loop-i.i c.args.found.now.count
     (nth_mapped (transition g.W.Kind.stands (ranks_in c.args.shape.now)) c.args.rules.now c.loop-i.i c.index-rules-i.result c.loop-i-test.true c.index-rules-i.is)
-    (subst (λ (q : ℕ). Tried (states_in c.args.shape.now) r.children q c.loop-i.i c.loop-i.found c.try-rule.new.found) c.from.ensures c.try-rule.ensures)
+    (subst (λ (q : ℕ). Tried (states_in c.args.shape.now) r.children q c.loop-i.i c.loop-i.found c.try_rule.new.found) c.from.ensures c.try_rule.ensures)
     c.loop-i.invariant
 
 pub returns : goal.returns

@@ -6,26 +6,26 @@ use Rattle.rules.specs.Shapes.{states_in}
 use Rattle.liveness.specs.Reaching.{children_in}
 use Rattle.liveness.proofs.Listings.{room}
 use Rattle.liveness.proofs.upward.try_rule.Goals as goal
-use Rattle.liveness.proofs.upward.try_rule.Goals.{else-target-states-via-then-target-states+then-not-is-set+else-all-set, else-target-states-via-then-target-states+else-not-is-set, else-target-states-via-else-target-states}
+use Rattle.liveness.proofs.upward.try_rule.Goals.{else-target-states-via-then-target-states+then-not-is_set+else-all_set, else-target-states-via-then-target-states+else-not-is_set, else-target-states-via-else-target-states}
 
-pub add-reached-requires : goal.add-reached-requires
-add-reached-requires c =
+pub add_reached-requires : goal.add_reached-requires
+add_reached-requires c =
     let new : c.args.target < states_in c.args.shape.now = omega arith in
-    let less = room (states_in c.args.shape.now) c.args.found.now.reached c.args.found.now.order c.args.found.now.count (omega arith) (omega arith) (omega arith) c.requires c.args.target new (sym c.if-not-is-set.ensures) in
+    let less = room (states_in c.args.shape.now) c.args.found.now.reached c.args.found.now.order c.args.found.now.count (omega arith) (omega arith) (omega arith) c.requires c.args.target new (sym c.if-not-is_set.ensures) in
     (omega arith, omega arith)
 
-pub returns-then-all-set : goal.returns-then-all-set
-returns-then-all-set c =
-    inr (c.add-reached.ensures, omega arith, sym c.if-not-is-set.ensures, all_in_all (λ q. get_or c.args.found.now.reached q false) (children_in c.args.shape.now c.args.left.now) (sym c.if-all-set.ensures))
+pub returns-then-all_set : goal.returns-then-all_set
+returns-then-all_set c =
+    inr (c.add_reached.ensures, omega arith, sym c.if-not-is_set.ensures, all_in_all (λ q. get_or c.args.found.now.reached q false) (children_in c.args.shape.now c.args.left.now) (sym c.if-all_set.ensures))
 
 pub returns-else-target-states : goal.returns-else-target-states
 returns-else-target-states c =
     elim c.else-target-states.branch [
-      | else-target-states-via-then-target-states+then-not-is-set+else-all-set w ↦ inl (
+      | else-target-states-via-then-target-states+then-not-is_set+else-all_set w ↦ inl (
         refl,
         λ all new.
-            absurd (both_ways (all_in (λ q. get_or c.args.found.now.reached q false) (children_in c.args.shape.now c.args.left.now)) (sym w.if-all-set.ensures) (all_all_in (λ q. get_or c.args.found.now.reached q false) (children_in c.args.shape.now c.args.left.now) all)),
+            absurd (both_ways (all_in (λ q. get_or c.args.found.now.reached q false) (children_in c.args.shape.now c.args.left.now)) (sym w.if-all_set.ensures) (all_all_in (λ q. get_or c.args.found.now.reached q false) (children_in c.args.shape.now c.args.left.now) all)),
       )
-      | else-target-states-via-then-target-states+else-not-is-set w ↦ inl (refl, λ all new. sym w.if-not-is-set.ensures)
+      | else-target-states-via-then-target-states+else-not-is_set w ↦ inl (refl, λ all new. sym w.if-not-is_set.ensures)
       | else-target-states-via-else-target-states w ↦ inl (refl, λ all new. absurd (omega (arith, w.if-target-states.false)))
     ]

@@ -4,20 +4,20 @@ use Rattle.reduction.specs.Marking.{set_in}
 use Rattle.reduction.specs.Rounds.{AcceptApart}
 use Rattle.reduction.proofs.Spreads.{Row, flag_small, row_past, row_more}
 use Rattle.reduction.proofs.acceptance.mark_row.Goals as goal
-use Rattle.reduction.proofs.acceptance.mark_row.Goals.{then-accept-apart, else-accept-apart}
+use Rattle.reduction.proofs.acceptance.mark_row.Goals.{then-accept_apart, else-accept_apart}
 
 pub loop-q-preserved : goal.loop-q-preserved
 loop-q-preserved c =
     let D = AcceptApart (accepts_in c.args.shape.now) (set_in c.args.live.now) in
-    elim c.if-accept-apart.branch [
-      | then-accept-apart w ↦
-          let here : D c.args.p c.loop-q.q = w.if-accept-apart.ensures.0 refl in
+    elim c.if-accept_apart.branch [
+      | then-accept_apart w ↦
+          let here : D c.args.p c.loop-q.q = w.if-accept_apart.ensures.0 refl in
           let small = flag_small c.args.live.now c.args.p here.this_live in
           subst (λ t. Row D c.args.p (c.loop-q.q + 1) c.args.marks.now t) (sym w.marks-is)
           (row_more D c.args.p c.loop-q.q c.args.marks.now c.loop-q.marks w.mark.new.self here (w.mark.ensures.there (omega arith) (omega arith)) c.loop-q.invariant)
-      | else-accept-apart w ↦
+      | else-accept_apart w ↦
           subst (λ t. Row D c.args.p (c.loop-q.q + 1) c.args.marks.now t) (sym w.marks-is)
-          (row_past D c.args.p c.loop-q.q c.args.marks.now c.loop-q.marks (λ d. let z : false ≡ true = w.if-accept-apart.ensures.1 d in let y : ◌≡◌ {A = ℕ} 0 1 = cc in omega arith) c.loop-q.invariant)
+          (row_past D c.args.p c.loop-q.q c.args.marks.now c.loop-q.marks (λ d. let z : false ≡ true = w.if-accept_apart.ensures.1 d in let y : ◌≡◌ {A = ℕ} 0 1 = cc in omega arith) c.loop-q.invariant)
     ]
 
 pub returns : goal.returns

@@ -11,12 +11,12 @@ pub returns : goal.returns
 returns g c sound room =
     let K = g.W.Kind.weights in
     let A = automaton g.W.Kind.stands c.args.shape.now c.args.rules.now in
-    let life = c.find-live-life.result in
-    let lively = c.find-live-life.ensures c.find-reached-reach.ensures in
-    let decides = lives K A sound c.find-reached-reach.result c.find-reached-reach.ensures life lively in
-    let told = c.first-marks-marks.ensures sound decides in
-    analysed K g.W.Kind.stands A (live_in life) (flag_at c.first-marks-marks.result) (flag_at c.second-marks.new.marks) c.number-classes.result c.choose-factors.new.work sound decides told
-    (c.choose-factors.ensures sound decides room told) (c.second-marks.ensures sound decides)
-    (c.number-classes.ensures
+    let life = c.find_live-life.result in
+    let lively = c.find_live-life.ensures c.find_reached-reach.ensures in
+    let decides = lives K A sound c.find_reached-reach.result c.find_reached-reach.ensures life lively in
+    let told = c.first_marks-marks.ensures sound decides in
+    analysed K g.W.Kind.stands A (live_in life) (flag_at c.first_marks-marks.result) (flag_at c.second_marks.new.marks) c.number_classes.result c.choose_factors.new.work sound decides told
+    (c.choose_factors.ensures sound decides room told) (c.second_marks.ensures sound decides)
+    (c.number_classes.ensures
     (λ q on. omega (arith, c.states.ensures, flagged_within (states_in c.args.shape.now) life.live life.order life.count lively.listed q on))
     (omega (arith, c.states.ensures, c.args.shape.now.measure.few)))

@@ -8,7 +8,7 @@ use Rattle.reduction.specs.Marking.{live_in, set_in}
 use Rattle.reduction.specs.Classes.{factor_at}
 use Rattle.reduction.proofs.Beginnings.{accepting_none, accepting_past, accepting_more}
 use Rattle.reduction.proofs.choosing.choose_accepting.Goals as goal
-use Rattle.reduction.proofs.choosing.choose_accepting.Goals.{then-is-final, else-is-final}
+use Rattle.reduction.proofs.choosing.choose_accepting.Goals.{then-is_final, else-is_final}
 
 pub loop-q-init : goal.loop-q-init
 loop-q-init g c room =
@@ -21,16 +21,16 @@ loop-q-preserved g c room =
     let accepts = accepts_in c.args.shape.now in
     let live = live_in c.args.life.now in
     let f = λ (work : List (Place g.row.W.Denot)). factor_at g.W.Kind.stands K work in
-    elim c.if-is-final.branch [
-      | then-is-final w ↦
-          let yes-parts = and_parts (live q) (accepts q) (sym w.if-is-final.ensures) in
+    elim c.if-is_final.branch [
+      | then-is_final w ↦
+          let yes-parts = and_parts (live q) (accepts q) (sym w.if-is_final.ensures) in
           subst₂ (λ (flags : List Bool) (work : List (Place g.row.W.Denot)). Accepting K accepts live (q + 1) (set_in flags) (f work)) (sym w.chosen-is) (sym w.work-is)
           (accepting_more K accepts live q (set_in c.loop-q.chosen) (f c.loop-q.work) (c.loop-q.invariant room) yes-parts.0 yes-parts.1
           (set_in w.give.new.chosen) (f w.give.new.work) (g.W.Kind.stands w.one.result) w.one.ensures (w.give.ensures.given (omega arith) (omega arith)))
-      | else-is-final w ↦
+      | else-is_final w ↦
           subst₂ (λ (flags : List Bool) (work : List (Place g.row.W.Denot)). Accepting K accepts live (q + 1) (set_in flags) (f work)) (sym w.chosen-is) (sym w.work-is)
           (accepting_past K accepts live q (set_in c.loop-q.chosen) (f c.loop-q.work) (c.loop-q.invariant room) (λ l a.
-          both_ways (live q && accepts q) (sym w.if-is-final.ensures) (and_from (live q) (accepts q) l a)))
+          both_ways (live q && accepts q) (sym w.if-is_final.ensures) (and_from (live q) (accepts q) l a)))
     ]
 
 pub returns : goal.returns

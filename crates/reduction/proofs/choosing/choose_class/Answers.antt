@@ -12,13 +12,13 @@ use Rattle.reduction.specs.Marking.{live_in}
 use Rattle.reduction.proofs.ClassTurns.{Turned, turned_none, turned_past, turned_more, turned_all}
 use Rattle.reduction.proofs.Giving.{grown_none, grown_onward}
 use Rattle.reduction.proofs.choosing.choose_class.Goals as goal
-use Rattle.reduction.proofs.choosing.choose_class.Goals.{then-is-alike, else-is-alike}
+use Rattle.reduction.proofs.choosing.choose_class.Goals.{then-is_alike, else-is_alike}
 
 pub bounds-children-place : goal.bounds-children-place
 bounds-children-place g c = omega (arith, c.requires, rank_small c.args.shape.now.measure.alphabet c.args.rule.now.left.symbol)
 
-pub offset-bounds-children-place : goal.offset-bounds-children-place
-offset-bounds-children-place g c = omega (arith, c.requires, rank_small c.args.shape.now.measure.alphabet c.args.rule.now.left.symbol)
+pub offset_bounds-children-place : goal.offset_bounds-children-place
+offset_bounds-children-place g c = omega (arith, c.requires, rank_small c.args.shape.now.measure.alphabet c.args.rule.now.left.symbol)
 
 pub loop-q-init : goal.loop-q-init
 loop-q-init g c =
@@ -37,21 +37,21 @@ loop-q-preserved g c =
     let Turning = λ (flags : List Bool) (work : List (Place g.row.W.Denot)) (n : ℕ). Grown c.args.chosen.now flags × Turned K g.W.Kind.stands c.args.shape.now c.args.rules.now c.args.life.now c.args.marks.now c.args.rule.now c.args.place c.args.chosen.now c.args.work.now flags work n in
     let alike = live_in c.args.life.now q in
     let apart = flag_at c.args.marks.now (get_or c.widened-children.result c.args.place 0) q in
-    elim c.if-is-alike.branch [
-      | then-is-alike w ↦
-          let yes-parts = and_parts alike (not apart) (sym w.if-is-alike.ensures) in
+    elim c.if-is_alike.branch [
+      | then-is_alike w ↦
+          let yes-parts = and_parts alike (not apart) (sym w.if-is_alike.ensures) in
           subst₂ (λ (flags : List Bool) (work : List (Place g.row.W.Denot)). Turning flags work (q + 1)) (sym w.chosen-is) (sym w.work-is) (
-            grown_onward c.args.chosen.now c.loop-q.chosen w.choose-state.new.chosen c.loop-q.invariant.0 w.choose-state.ensures.grown,
+            grown_onward c.args.chosen.now c.loop-q.chosen w.choose_state.new.chosen c.loop-q.invariant.0 w.choose_state.ensures.grown,
             turned_more K g.W.Kind.stands c.args.shape.now c.args.rules.now c.args.life.now c.args.marks.now c.args.rule.now c.args.place c.args.chosen.now c.args.work.now c.requires four
                 c.loop-q.chosen c.loop-q.work q c.loop-q.invariant.1 yes-parts.0 (ap (λ p. flag_at c.args.marks.now p q) (sym child) ∙ not-true apart yes-parts.1) (omega arith) (omega arith)
-                w.choose-state.new.chosen w.choose-state.new.work w.choose-state.ensures.gets,
+                w.choose_state.new.chosen w.choose_state.new.work w.choose_state.ensures.gets,
           )
-      | else-is-alike w ↦
+      | else-is_alike w ↦
           subst₂ (λ (flags : List Bool) (work : List (Place g.row.W.Denot)). Turning flags work (q + 1)) (sym w.chosen-is) (sym w.work-is) (
             c.loop-q.invariant.0,
             turned_past K g.W.Kind.stands c.args.shape.now c.args.rules.now c.args.life.now c.args.marks.now c.args.rule.now c.args.place c.args.chosen.now c.args.work.now c.requires four
                 c.loop-q.chosen c.loop-q.work q c.loop-q.invariant.1 (λ l e.
-                both_ways (alike && not apart) (sym w.if-is-alike.ensures) (and_from alike (not apart) l (not_from_false apart (ap (λ p. flag_at c.args.marks.now p q) child ∙ e)))),
+                both_ways (alike && not apart) (sym w.if-is_alike.ensures) (and_from alike (not apart) l (not_from_false apart (ap (λ p. flag_at c.args.marks.now p q) child ∙ e)))),
           )
     ]
 

@@ -10,13 +10,13 @@ use Rattle.reduction.proofs.choosing.choose_factors.Goals as goal
 
 pub loop-chosen-init : goal.loop-chosen-init
 loop-chosen-init g c ready =
-    accepting_chosen g.W.Kind.weights (automaton g.W.Kind.stands c.args.shape.now c.args.rules.now) (live_in c.args.life.now) (flag_at c.args.marks.now) (length c.choose-accepting-chosen.new.work) ready
-    (set_in c.choose-accepting-chosen.result) (factor_at g.W.Kind.stands g.W.Kind.weights c.choose-accepting-chosen.new.work) (c.choose-accepting-chosen.ensures (omega (arith, ready.room, c.choose-accepting-chosen.auto.work)))
+    accepting_chosen g.W.Kind.weights (automaton g.W.Kind.stands c.args.shape.now c.args.rules.now) (live_in c.args.life.now) (flag_at c.args.marks.now) (length c.choose_accepting-chosen.new.work) ready
+    (set_in c.choose_accepting-chosen.result) (factor_at g.W.Kind.stands g.W.Kind.weights c.choose_accepting-chosen.new.work) (c.choose_accepting-chosen.ensures (omega (arith, ready.room, c.choose_accepting-chosen.auto.work)))
 
 pub loop-chosen-preserved : goal.loop-chosen-preserved
 loop-chosen-preserved g c ready =
-    let before = ready_still g.W.Kind.weights g.W.Kind.stands c.args.shape.now c.args.rules.now c.args.life.now c.args.marks.now c.choose-pass.new.work c.loop-chosen.work (omega (arith, c.choose-pass.auto.work)) ready in
-    c.choose-pass.ensures.choice before (c.loop-chosen.invariant before)
+    let before = ready_still g.W.Kind.weights g.W.Kind.stands c.args.shape.now c.args.rules.now c.args.life.now c.args.marks.now c.choose_pass.new.work c.loop-chosen.work (omega (arith, c.choose_pass.auto.work)) ready in
+    c.choose_pass.ensures.choice before (c.loop-chosen.invariant before)
 
 pub returns : goal.returns
 returns g c sound decides room told =
@@ -24,4 +24,4 @@ returns g c sound decides room told =
     record { sound = sound; decides = decides; room = omega arith; told = told } in
     let choice = c.loop-chosen.invariant ready in
     chosen_all g.W.Kind.weights (automaton g.W.Kind.stands c.args.shape.now c.args.rules.now) (live_in c.args.life.now) (flag_at c.args.marks.now) (length c.loop-chosen.work) ready
-    (set_in c.choose-pass.new.chosen) (factor_at g.W.Kind.stands g.W.Kind.weights c.choose-pass.new.work) (c.choose-pass.ensures.choice ready choice) (c.choose-pass.ensures.rest c.loop-chosen-test.false ready choice)
+    (set_in c.choose_pass.new.chosen) (factor_at g.W.Kind.stands g.W.Kind.weights c.choose_pass.new.work) (c.choose_pass.ensures.choice ready choice) (c.choose_pass.ensures.rest c.loop-chosen-test.false ready choice)

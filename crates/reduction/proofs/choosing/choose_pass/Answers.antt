@@ -10,7 +10,7 @@ loop-i-init g c =
 pub loop-i-preserved : goal.loop-i-preserved
 loop-i-preserved g c =
     passing_more g.W.Kind.weights g.W.Kind.stands c.args.shape.now c.args.rules.now c.args.life.now c.args.marks.now c.args.chosen.now c.args.work.now
-    c.loop-i.chosen c.choose-children.new.chosen c.loop-i.work c.choose-children.new.work c.loop-i.i c.index-rules-i.result c.loop-i-test.true c.index-rules-i.is c.loop-i.auto.work c.choose-children.ensures.grown c.choose-children.ensures.choice c.loop-i.invariant
+    c.loop-i.chosen c.choose_children.new.chosen c.loop-i.work c.choose_children.new.work c.loop-i.i c.index-rules-i.result c.loop-i-test.true c.index-rules-i.is c.loop-i.auto.work c.choose_children.ensures.grown c.choose_children.ensures.choice c.loop-i.invariant
 
 pub returns : goal.returns
 returns g c =

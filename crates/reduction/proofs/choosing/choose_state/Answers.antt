@@ -12,16 +12,16 @@ returns-in-Some g c =
       gets = λ h l.
           gets_some g.W.Kind.weights g.W.Kind.stands c.args.shape.now c.args.rules.now c.args.rule.now c.from-symbol.result (c.rank-rank.result - 0) c.args.place c.args.state c.from-symbol.ensures (omega (arith, c.rank-rank.ensures.value)) c.requires
           (set_in c.args.chosen.now) (set_in c.give.new.chosen) (factor_at g.W.Kind.stands g.W.Kind.weights c.args.work.now) (factor_at g.W.Kind.stands g.W.Kind.weights c.give.new.work)
-          c.in-Some.other c.widened-children.result (g.W.Kind.stands c.led-weight.result) c.widened-children.ensures (omega arith) c.in-Some.ensures
-          c.led-weight.ensures (c.give.ensures.given h l);
+          c.in-Some.other c.widened-children.result (g.W.Kind.stands c.led_weight.result) c.widened-children.ensures (omega arith) c.in-Some.ensures
+          c.led_weight.ensures (c.give.ensures.given h l);
     }
 
-pub returns-in-default : goal.returns-in-default
-returns-in-default g c =
+pub returns-in_default : goal.returns-in_default
+returns-in_default g c =
     record {
       grown = grown_none c.args.chosen.now;
       gets = λ h l.
           gets_none g.W.Kind.weights g.W.Kind.stands c.args.shape.now c.args.rules.now c.args.rule.now c.from-symbol.result (c.rank-rank.result - 0) c.args.place c.args.state c.from-symbol.ensures (omega (arith, c.rank-rank.ensures.value)) c.requires
           (set_in c.args.chosen.now) (set_in c.args.chosen.now) (factor_at g.W.Kind.stands g.W.Kind.weights c.args.work.now) (factor_at g.W.Kind.stands g.W.Kind.weights c.args.work.now)
-          c.widened-children.result c.widened-children.ensures (omega arith) c.in-default.ensures;
+          c.widened-children.result c.widened-children.ensures (omega arith) c.in_default.ensures;
     }

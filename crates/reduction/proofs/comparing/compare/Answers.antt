@@ -39,4 +39,4 @@ returns g c =
     (transition g.W.Kind.stands (ranks_in c.args.shape.now) c.args.rule.now) (transition g.W.Kind.stands (ranks_in c.args.shape.now) c.args.other.now) c.args.marks.now c.in-Some.place c.from-p.result c.from-q.result c.in-Some.ensures
     (child_read (rank (ranks_in c.args.shape.now) c.args.rule.now.left.symbol) c.args.rule.now.left.children c.in-Some.place c.from-p.result c.in-Some.ensures.within c.from-p.ensures)
     (other_read (ranks_in c.args.shape.now) c.args.rule.now.left.symbol c.args.other.now.left.symbol c.args.rule.now.left.children c.args.other.now.left.children c.in-Some.place c.from-q.result c.in-Some.ensures.symbol c.in-Some.ensures.within c.from-q.ensures)
-    c.mark-both.new.self (λ q on. let small = flag_small c.args.live.now q on in omega arith) c.requires.0 c.requires.1.0 c.requires.1.1 (c.if-not-tells.ensures.0 refl) c.if-get.ensures c.mark-both.ensures.there
+    c.mark_both.new.self (λ q on. let small = flag_small c.args.live.now q on in omega arith) c.requires.0 c.requires.1.0 c.requires.1.1 (c.if-not-tells.ensures.0 refl) c.if-get.ensures c.mark_both.ensures.there

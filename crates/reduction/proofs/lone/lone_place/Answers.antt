@@ -12,7 +12,7 @@ loop-q-preserved g c =
     let A = automaton g.W.Kind.stands c.args.shape.now c.args.rules.now in
     let live = set_in c.args.live.now in
     let r = transition g.W.Kind.stands (ranks_in c.args.shape.now) c.args.rule.now in
-    below_onward K A live (LoneNoted K A live r c.args.place) (noted_kept K A live r c.args.place) c.args.marks.now c.loop-q.marks c.note-lone.new.marks c.loop-q.q c.note-lone.ensures.grown c.note-lone.ensures.noted c.loop-q.invariant
+    below_onward K A live (LoneNoted K A live r c.args.place) (noted_kept K A live r c.args.place) c.args.marks.now c.loop-q.marks c.note_lone.new.marks c.loop-q.q c.note_lone.ensures.grown c.note_lone.ensures.noted c.loop-q.invariant
 
 pub returns : goal.returns
 returns g c = record {

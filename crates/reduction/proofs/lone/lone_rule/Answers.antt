@@ -13,7 +13,7 @@ loop-k-preserved g c =
     let A = automaton g.W.Kind.stands c.args.shape.now c.args.rules.now in
     let live = set_in c.args.live.now in
     let r = transition g.W.Kind.stands (ranks_in c.args.shape.now) c.args.rule.now in
-    below_onward K A live (LonePlace K A live r) (λ k s s' h n q. noted_kept K A live r k q s s' h (n q)) c.args.marks.now c.loop-k.marks c.lone-place.new.marks c.loop-k.k c.lone-place.ensures.grown c.lone-place.ensures.noted c.loop-k.invariant
+    below_onward K A live (LonePlace K A live r) (λ k s s' h n q. noted_kept K A live r k q s s' h (n q)) c.args.marks.now c.loop-k.marks c.lone_place.new.marks c.loop-k.k c.lone_place.ensures.grown c.lone_place.ensures.noted c.loop-k.invariant
 
 pub returns : goal.returns
 returns g c =

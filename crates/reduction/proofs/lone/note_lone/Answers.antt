@@ -16,10 +16,10 @@ use Rattle.reduction.proofs.lone.note_lone.Goals as goal
 pub bounds-rule-place : goal.bounds-rule-place
 bounds-rule-place g c = omega (arith, c.requires.1.1, rank_small c.args.shape.now.measure.alphabet c.args.rule.now.left.symbol)
 
-pub returns-then-not-is-set : goal.returns-then-not-is-set
-returns-then-not-is-set g c = record {
+pub returns-then-not-is_set : goal.returns-then-not-is_set
+returns-then-not-is_set g c = record {
   grown = grown_same g.W.Kind.weights (automaton g.W.Kind.stands c.args.shape.now c.args.rules.now) (set_in c.args.live.now) round_one c.args.marks.now;
-  noted = λ a b on d. absurd (both_ways (set_in c.args.live.now c.args.other) (sym c.if-not-is-set.ensures) on);
+  noted = λ a b on d. absurd (both_ways (set_in c.args.live.now c.args.other) (sym c.if-not-is_set.ensures) on);
 }
 
 pub returns-then-get : goal.returns-then-get
@@ -28,19 +28,19 @@ returns-then-get g c = record {
   noted = λ a b on d. ap (λ x. flag_at c.args.marks.now x c.args.other) (child_read (rank (ranks_in c.args.shape.now) c.args.rule.now.left.symbol) c.args.rule.now.left.children c.args.place c.from-child.result b c.from-child.ensures) ∙ sym c.if-get.ensures;
 }
 
-pub returns-then-not-has-counterpart : goal.returns-then-not-has-counterpart
-returns-then-not-has-counterpart g c =
+pub returns-then-not-has_counterpart : goal.returns-then-not-has_counterpart
+returns-then-not-has_counterpart g c =
     let K = g.W.Kind.weights in
     let A = automaton g.W.Kind.stands c.args.shape.now c.args.rules.now in
     let n = rank (ranks_in c.args.shape.now) c.args.rule.now.left.symbol in
     let r = transition g.W.Kind.stands (ranks_in c.args.shape.now) c.args.rule.now in
-    let four = c.has-counterpart.ensures.four in
+    let four = c.has_counterpart.ensures.four in
     let low = c.requires.1.1 in
     let few = rank_small c.args.shape.now.measure.alphabet c.args.rule.now.left.symbol in
     let long : length (take n c.args.rule.now.left.children) ≡ n = length-take-le n c.args.rule.now.left.children (omega arith) in
     let within : c.args.place < length (take n c.args.rule.now.left.children) = omega arith in
     let this = child_read n c.args.rule.now.left.children c.args.place c.from-child.result within c.from-child.ensures in
     record {
-      grown = lone_grown K A (set_in c.args.live.now) r c.args.place c.from-child.result c.args.other c.args.marks.now c.mark-both.new.self c.requires.0 c.requires.1.0 within this (sym c.if-not-is-set.ensures) (sym c.if-not-has-counterpart.ensures.found) (λ q on. let small = flag_small c.args.live.now q on in omega arith) c.mark-both.ensures.there;
-      noted = lone_here K A (set_in c.args.live.now) r c.args.place c.from-child.result c.args.other c.args.marks.now c.mark-both.new.self c.requires.0 c.requires.1.0 within this (sym c.if-not-is-set.ensures) (sym c.if-not-has-counterpart.ensures.found) (λ q on. let small = flag_small c.args.live.now q on in omega arith) c.mark-both.ensures.there;
+      grown = lone_grown K A (set_in c.args.live.now) r c.args.place c.from-child.result c.args.other c.args.marks.now c.mark_both.new.self c.requires.0 c.requires.1.0 within this (sym c.if-not-is_set.ensures) (sym c.if-not-has_counterpart.ensures.found) (λ q on. let small = flag_small c.args.live.now q on in omega arith) c.mark_both.ensures.there;
+      noted = lone_here K A (set_in c.args.live.now) r c.args.place c.from-child.result c.args.other c.args.marks.now c.mark_both.new.self c.requires.0 c.requires.1.0 within this (sym c.if-not-is_set.ensures) (sym c.if-not-has_counterpart.ensures.found) (λ q on. let small = flag_small c.args.live.now q on in omega arith) c.mark_both.ensures.there;
     }

@@ -5,10 +5,10 @@ use Rattle.reduction.specs.Marking.{set_in}
 use Rattle.reduction.specs.Rounds.{round_in, ComparedOne}
 use Rattle.reduction.proofs.Passes.{has_mapped, at_mapped, SweptTo, to_marks, to_past, to_all}
 use Rattle.reduction.proofs.marking.compare_all.Goals as goal
-use Rattle.reduction.proofs.marking.compare_all.Goals.{then-compare-one, else-compare-one}
+use Rattle.reduction.proofs.marking.compare_all.Goals.{then-compare_one, else-compare_one}
 
-pub compare-one-requires : goal.compare-one-requires
-compare-one-requires g c =
+pub compare_one-requires : goal.compare_one-requires
+compare_one-requires g c =
     has_mapped (transition g.W.Kind.stands (ranks_in c.args.shape.now)) c.args.rules.now c.loop-i.i c.index-rules-i.result c.loop-i-test.true c.index-rules-i.is
 
 pub loop-i-preserved : goal.loop-i-preserved
@@ -20,13 +20,13 @@ loop-i-preserved g c =
     let ρ = round_in g.W.Kind.stands K c.args.weighs c.args.work.now in
     let P = ComparedOne K A live ρ in
     let Q = P (T c.index-rules-i.result) in
-    elim c.if-compare-one.branch [
-      | then-compare-one w ↦ subst (λ (b : Bool). SweptTo K A live ρ P (c.loop-i.i + 1) c.args.marks.now c.compare-one.new.marks b) (sym w.marked-is)
-          (to_marks K A live ρ P Q c.loop-i.i c.args.marks.now c.loop-i.marks c.compare-one.new.marks c.loop-i.marked c.loop-i.invariant w.if-compare-one.ensures)
-      | else-compare-one w ↦ subst (λ (b : Bool). SweptTo K A live ρ P (c.loop-i.i + 1) c.args.marks.now c.compare-one.new.marks b) (sym w.marked-is)
-          (to_past K A live ρ P Q c.loop-i.i c.args.marks.now c.loop-i.marks c.compare-one.new.marks c.loop-i.marked
+    elim c.if-compare_one.branch [
+      | then-compare_one w ↦ subst (λ (b : Bool). SweptTo K A live ρ P (c.loop-i.i + 1) c.args.marks.now c.compare_one.new.marks b) (sym w.marked-is)
+          (to_marks K A live ρ P Q c.loop-i.i c.args.marks.now c.loop-i.marks c.compare_one.new.marks c.loop-i.marked c.loop-i.invariant w.if-compare_one.ensures)
+      | else-compare_one w ↦ subst (λ (b : Bool). SweptTo K A live ρ P (c.loop-i.i + 1) c.args.marks.now c.compare_one.new.marks b) (sym w.marked-is)
+          (to_past K A live ρ P Q c.loop-i.i c.args.marks.now c.loop-i.marks c.compare_one.new.marks c.loop-i.marked
           (at_mapped T c.args.rules.now c.loop-i.i c.index-rules-i.result c.loop-i-test.true c.index-rules-i.is (λ r. P r c.args.marks.now))
-          c.loop-i.invariant w.if-compare-one.ensures)
+          c.loop-i.invariant w.if-compare_one.ensures)
     ]
 
 pub returns : goal.returns

@@ -9,7 +9,7 @@ use Rattle.reduction.proofs.marking.compare_one.Goals.{then-compare, else-compar
 
 pub compare-requires : goal.compare-requires
 compare-requires g c =
-    (c.requires, (has_mapped (transition g.W.Kind.stands (ranks_in c.args.shape.now)) c.args.rules.now c.loop-j.j c.index-rules-j.result c.loop-j-test.true c.index-rules-j.is, sym c.if-not-is-live-rule.ensures))
+    (c.requires, (has_mapped (transition g.W.Kind.stands (ranks_in c.args.shape.now)) c.args.rules.now c.loop-j.j c.index-rules-j.result c.loop-j-test.true c.index-rules-j.is, sym c.if-not-is_live_rule.ensures))
 
 pub loop-j-preserved : goal.loop-j-preserved
 loop-j-preserved g c =

@@ -8,12 +8,12 @@ use Rattle.reduction.proofs.marking.settle.Goals as goal
 
 pub loop-smaller : goal.loop-smaller
 loop-smaller g c =
-    let more = c.compare-all.ensures.more c.loop-test.true in
-    omega (arith, marked_bound c.compare-all.new.marks)
+    let more = c.compare_all.ensures.more c.loop-test.true in
+    omega (arith, marked_bound c.compare_all.new.marks)
 
 pub loop-preserved : goal.loop-preserved
 loop-preserved g c =
-    grown_onward g.W.Kind.weights (automaton g.W.Kind.stands c.args.shape.now c.args.rules.now) (set_in c.args.live.now) (round_in g.W.Kind.stands g.W.Kind.weights c.args.weighs c.args.work.now) c.args.marks.now c.loop.marks c.compare-all.new.marks c.loop.invariant c.compare-all.ensures.grown
+    grown_onward g.W.Kind.weights (automaton g.W.Kind.stands c.args.shape.now c.args.rules.now) (set_in c.args.live.now) (round_in g.W.Kind.stands g.W.Kind.weights c.args.weighs c.args.work.now) c.args.marks.now c.loop.marks c.compare_all.new.marks c.loop.invariant c.compare_all.ensures.grown
 
 pub returns : goal.returns
 returns g c =
@@ -22,6 +22,6 @@ returns g c =
     let live = set_in c.args.live.now in
     let ρ = round_in g.W.Kind.stands K c.args.weighs c.args.work.now in
     record {
-      grown = grown_onward K A live ρ c.args.marks.now c.loop.marks c.compare-all.new.marks c.loop.invariant c.compare-all.ensures.grown;
-      rest = subst (ComparedAll K A live ρ) (sym (c.compare-all.ensures.same c.loop-test.false)) (c.compare-all.ensures.rest c.loop-test.false);
+      grown = grown_onward K A live ρ c.args.marks.now c.loop.marks c.compare_all.new.marks c.loop.invariant c.compare_all.ensures.grown;
+      rest = subst (ComparedAll K A live ρ) (sym (c.compare_all.ensures.same c.loop-test.false)) (c.compare_all.ensures.rest c.loop-test.false);
     }

@@ -7,9 +7,9 @@ loop-k-init c =
     let long : length c.args.children ≡ 4 = omega arith in
     (long, named_none c.args.classes.now c.args.children c.args.children)
 
-pub returns-in-default : goal.returns-in-default
-returns-in-default c =
-    named_lacks c.args.classes.now c.args.children c.args.rank c.loop-k.k c.from.result c.loop-k-test.true (omega arith) c.from.ensures c.in-default.ensures
+pub returns-in_default : goal.returns-in_default
+returns-in_default c =
+    named_lacks c.args.classes.now c.args.children c.args.rank c.loop-k.k c.from.result c.loop-k-test.true (omega arith) c.from.ensures c.in_default.ensures
 
 pub loop-k-preserved : goal.loop-k-preserved
 loop-k-preserved c =

@@ -11,12 +11,12 @@ returns g c =
     let n = c.min-used.result - 0 in
     let capped : n ≡ min c.args.count (length c.args.memory.now) = omega (arith, c.min-used.ensures) in
     let room : states_in c.args.shape.now ≤ length c.args.work.now = omega (arith, c.states.ensures, c.if-work-states.false) in
-    let long : length c.reduce-rules.new.rules ≡ length (take n c.args.memory.now) = c.reduce-rules.auto.rules in
+    let long : length c.reduce_rules.new.rules ≡ length (take n c.args.memory.now) = c.reduce_rules.auto.rules in
     record {
       answer = (
         ((λ x met. omega (arith, met.0)), tt),
-        reduced_front g.W.Kind.stands g.W.Kind.weights c.args.shape.now c.reduce-rules.result c.args.count n c.args.memory.now c.reduce-rules.new.rules capped (omega (arith, c.reduce-rules.ensures.few)) (c.reduce-rules.ensures.reduced room),
+        reduced_front g.W.Kind.stands g.W.Kind.weights c.args.shape.now c.reduce_rules.result c.args.count n c.args.memory.now c.reduce_rules.new.rules capped (omega (arith, c.reduce_rules.ensures.few)) (c.reduce_rules.ensures.reduced room),
       );
-      length = length_front c.args.memory.now c.reduce-rules.new.rules n long;
-      beyond = drop-append-drop n c.args.memory.now c.reduce-rules.new.rules c.args.count (omega arith) (long ∙ length-take-le n c.args.memory.now (omega arith));
+      length = length_front c.args.memory.now c.reduce_rules.new.rules n long;
+      beyond = drop-append-drop n c.args.memory.now c.reduce_rules.new.rules c.args.count (omega arith) (long ∙ length-take-le n c.args.memory.now (omega arith));
     }

@@ -7,8 +7,8 @@ use Rattle.reduction.proofs.shaping.class_marks.Goals as goal
 pub loop-c-preserved : goal.loop-c-preserved
 loop-c-preserved c =
     let long = c.loop-c.invariant.0 in (
-      length-set c.loop-c.marks c.loop-c.c c.is-accepting-class.result ∙ long,
-      marks_more (class_accepts c.args.shape.now c.args.classes.now) c.loop-c.marks c.loop-c.c c.is-accepting-class.result (omega arith) c.loop-c.invariant.1 c.is-accepting-class.ensures,
+      length-set c.loop-c.marks c.loop-c.c c.is_accepting_class.result ∙ long,
+      marks_more (class_accepts c.args.shape.now c.args.classes.now) c.loop-c.marks c.loop-c.c c.is_accepting_class.result (omega arith) c.loop-c.invariant.1 c.is_accepting_class.ensures,
     )
 
 pub returns : goal.returns

@@ -3,8 +3,8 @@ use Rattle.std.proofs.ByRecursion.{All-get_or}
 use Rattle.trees.proofs.Ranks.{copy_more, copy_all}
 use Rattle.rules.proofs.adding.left_side.Goals as goal
 
-pub overflow-cast-places : goal.overflow-cast-places
-overflow-cast-places c = record { fits = All-get_or (λ q. q < 256) c.args.children.now c.loop-k.k 0 c.loop-k-test.true c.requires.1.1 }
+pub overflow_cast-places : goal.overflow_cast-places
+overflow_cast-places c = record { fits = All-get_or (λ q. q < 256) c.args.children.now c.loop-k.k 0 c.loop-k-test.true c.requires.1.1 }
 
 pub loop-k-preserved : goal.loop-k-preserved
 loop-k-preserved c = (

@@ -1,4 +1,4 @@
-use Rattle.std.proofs.Common.{◌≡◌, ℕ, List, take, sym, ap, ◌∙◌, arith}
+use Rattle.std.proofs.Common.{◌≡◌, ℕ, take, sym, ap, ◌∙◌, arith}
 use Rattle.automata.proofs.Groups.{unit_right}
 use Rattle.rules.specs.Pushing.{at_state, at_places}
 use Rattle.rules.proofs.Pushes.{past}
@@ -11,7 +11,7 @@ pub loop-k-preserved : goal.loop-k-preserved
 loop-k-preserved g c =
     let K = g.W.Kind.weights in
     let b = g.W.Kind.stands c.args.back in
-    c.times-at-pushed.ensures
+    c.times_at-pushed.ensures
     ∙ ap (λ (p : ℕ). K.times (g.W.Kind.stands c.loop-k.pushed) (at_state K c.args.state b p)) c.from.ensures
     ∙ past K c.args.state b c.args.children.now c.loop-k.k (g.W.Kind.stands c.args.weight) (g.W.Kind.stands c.loop-k.pushed) (omega arith) c.loop-k.invariant
 

@@ -10,8 +10,8 @@ loop-i-init g c =
 
 pub loop-i-preserved : goal.loop-i-preserved
 loop-i-preserved g c =
-    subst (λ memory. PushedTo g.W.Kind.weights g.W.Kind.stands (ranks_in c.args.shape.now) c.args.state (g.W.Kind.stands c.args.factor) c.args.memory.now memory (c.loop-i.i + 1)) (sym c.put-rule.ensures)
-    (pushed_more g.W.Kind.weights g.W.Kind.stands (ranks_in c.args.shape.now) c.args.state (g.W.Kind.stands c.args.factor) c.args.memory.now c.loop-i.memory c.loop-i.i c.index-memory-i.result c.pushed-weight-weight.result (omega (arith, c.min-used.ensures, c.loop-i-test.true)) c.loop-i.invariant c.index-memory-i.is c.pushed-weight-weight.ensures)
+    subst (λ memory. PushedTo g.W.Kind.weights g.W.Kind.stands (ranks_in c.args.shape.now) c.args.state (g.W.Kind.stands c.args.factor) c.args.memory.now memory (c.loop-i.i + 1)) (sym c.put_rule.ensures)
+    (pushed_more g.W.Kind.weights g.W.Kind.stands (ranks_in c.args.shape.now) c.args.state (g.W.Kind.stands c.args.factor) c.args.memory.now c.loop-i.memory c.loop-i.i c.index-memory-i.result c.pushed_weight-weight.result (omega (arith, c.min-used.ensures, c.loop-i-test.true)) c.loop-i.invariant c.index-memory-i.is c.pushed_weight-weight.ensures)
 
 pub returns : goal.returns
 returns g c =

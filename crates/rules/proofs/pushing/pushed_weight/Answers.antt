@@ -1,7 +1,7 @@
 use Rattle.automata.specs.Trees.{rank}
 use Rattle.rules.specs.Shapes.{ranks_in}
 use Rattle.rules.proofs.Pushes.{pushed_is}
-use Rattle.std.proofs.Common.{ℕ, List, ap, ◌∙◌}
+use Rattle.std.proofs.Common.{ap, ◌∙◌}
 use Rattle.rules.proofs.pushing.pushed_weight.Goals as goal
 
 pub returns : goal.returns

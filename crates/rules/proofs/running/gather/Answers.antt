@@ -1,4 +1,4 @@
-use Rattle.std.proofs.Common.{◌≡◌, ◌-◌, length, set, sym, ap, ◌∙◌, subst, arith, length-set}
+use Rattle.std.proofs.Common.{◌-◌, length, set, sym, ◌∙◌, subst, arith, length-set}
 use Rattle.rules.specs.Running.{at_of, run_at}
 use Rattle.rules.proofs.Rows.{Gathering, gathering_none, gathering_more, gathering_lacks, gathering_all}
 use Rattle.rules.proofs.running.gather.Goals as goal
@@ -10,9 +10,9 @@ loop-k-init g c =
     let start = gathering_none K f c.args.entries.now c.args.states.now (omega arith) in
     (c.told-states, subst (Gathering K f c.args.entries.now c.args.states.now (length c.args.entries.now)) (sym c.one-weight.ensures) start)
 
-pub returns-in-default : goal.returns-in-default
-returns-in-default g c =
-    gathering_lacks g.W.Kind.weights (run_at g.W.Kind.stands c.args.side c.args.work.now) c.args.entries.now c.loop-k.k (omega arith) (omega arith) (sym c.in-default.ensures)
+pub returns-in_default : goal.returns-in_default
+returns-in_default g c =
+    gathering_lacks g.W.Kind.weights (run_at g.W.Kind.stands c.args.side c.args.work.now) c.args.entries.now c.loop-k.k (omega arith) (omega arith) (sym c.in_default.ensures)
 
 pub loop-k-preserved : goal.loop-k-preserved
 loop-k-preserved g c =

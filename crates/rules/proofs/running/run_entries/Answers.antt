@@ -7,4 +7,4 @@ use Rattle.rules.proofs.running.run_entries.Goals as goal
 pub loop-i-preserved : goal.loop-i-preserved
 loop-i-preserved g c =
     subst (λ work. RunBelow g.W.Kind.weights g.W.Kind.stands c.args.shape.now c.args.rules.now c.args.list.now First work (c.loop-i.i + 1)) (sym c.put.ensures)
-    (run_more g.W.Kind.weights g.W.Kind.stands c.args.shape.now c.args.rules.now c.args.list.now First c.loop-i.work c.loop-i.i (record { node = get_or c.args.list.now c.loop-i.i blank; first = c.run-node-first.result; second = None; mark = 0 }) c.loop-i-test.true (c.requires.0.good c.loop-i.i c.loop-i-test.true) (omega arith) c.loop-i.invariant c.run-node-first.ensures)
+    (run_more g.W.Kind.weights g.W.Kind.stands c.args.shape.now c.args.rules.now c.args.list.now First c.loop-i.work c.loop-i.i (record { node = get_or c.args.list.now c.loop-i.i blank; first = c.run_node-first.result; second = None; mark = 0 }) c.loop-i-test.true (c.requires.0.good c.loop-i.i c.loop-i-test.true) (omega arith) c.loop-i.invariant c.run_node-first.ensures)

@@ -10,5 +10,5 @@ returns-then-entry-work g c =
 
 pub returns : goal.returns
 returns g c =
-    ap (option_map (at_of g.W.Kind.stands)) c.side-of.ensures
+    ap (option_map (at_of g.W.Kind.stands)) c.side_of.ensures
     ∙ sym (ap (place_run g.W.Kind.stands c.args.side) (slice_get_read c.args.work.now (length c.args.work.now) c.args.entry c.index-work-entry.result refl c.if-entry-work.false c.index-work-entry.is))

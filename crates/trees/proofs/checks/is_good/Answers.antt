@@ -6,14 +6,14 @@ use Rattle.trees.proofs.Answers.{answers_yes, answers_no}
 use Rattle.trees.proofs.Ranks.{nth_some, nth_none}
 use Rattle.trees.proofs.checks.is_good.Goals as goal
 
-pub returns-in-default : goal.returns-in-default
-returns-in-default c = answers_no (λ good. nth_none (ranks_of c.args.alphabet.now) c.args.node.now.symbol (sym c.in-default.ensures) good.symbol_within)
+pub returns-in_default : goal.returns-in_default
+returns-in_default c = answers_no (λ good. nth_none (ranks_of c.args.alphabet.now) c.args.node.now.symbol (sym c.in_default.ensures) good.symbol_within)
 
-pub returns-then-not-is-placed : goal.returns-then-not-is-placed
-returns-then-not-is-placed c =
+pub returns-then-not-is_placed : goal.returns-then-not-is_placed
+returns-then-not-is_placed c =
     answers_no (λ good.
     let n = nth_some (ranks_of c.args.alphabet.now) c.args.node.now.symbol c.in-Some.rank 0 (sym c.in-Some.ensures) in
-    let e = c.if-not-is-placed.ensures.1 (subst (λ (m : ℕ). Placed m c.args.at c.loop-k.k (get_or c.args.node.now.children c.loop-k.k 0)) n.1 (good.places c.loop-k.k c.loop-k-test.true)) in
+    let e = c.if-not-is_placed.ensures.1 (subst (λ (m : ℕ). Placed m c.args.at c.loop-k.k (get_or c.args.node.now.children c.loop-k.k 0)) n.1 (good.places c.loop-k.k c.loop-k-test.true)) in
     false≢true e)
 
 pub returns : goal.returns

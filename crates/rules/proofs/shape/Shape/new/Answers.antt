@@ -6,6 +6,6 @@ use Rattle.rules.proofs.shape.Shape.new.Goals as goal
 pub returns : goal.returns
 returns c =
     record {
-      measure = ap (λ s. s.measure) c.of-parts.ensures;
-      none = λ q. ap (λ s. accepts_in s q) c.of-parts.ensures ∙ getD_constant 48 q false;
+      measure = ap (λ s. s.measure) c.of_parts.ensures;
+      none = λ q. ap (λ s. accepts_in s q) c.of_parts.ensures ∙ getD_constant 48 q false;
     }
