@@ -1,6 +1,6 @@
 // The nodes over all entries with known pairs whose states on one side are the children of a rule.
 ghost use Rattle.std.specs.Prelude.{◌≡◌, ◌<◌, ◌≤◌, true, false, take, drop, slice_set};
-ghost use Rattle.automata.specs.Trees.{rank as rank-of};
+ghost use Rattle.automata.specs.Trees.{rank as rank_of};
 ghost use Rattle.pairs.specs.Cells.{number_at};
 ghost use Rattle.rules.specs.Shapes.{ranks_in};
 ghost use Rattle.comparison.specs.Scanning.{two, of_side, other_side, runs_in, number_by, is_clear, PairsWithin, ClearOver, Filled, Tells};
@@ -70,7 +70,7 @@ pub fn fill<W: Kind>(
 ) -> Finding
     requires same { ranks_in tables.now.first.now ≡ ranks_in tables.now.second.now }
     requires within { PairsWithin (two W.Kind.stands tables.now) (number_at pairs.now) }
-    requires rank { rank ≡ rank-of (ranks_in tables.now.first.now) left.now.symbol }
+    requires rank { rank ≡ rank_of (ranks_in tables.now.first.now) left.now.symbol }
     requires small { rank ≤ 4 }
     requires place { place ≤ rank }
     requires symbol { node.symbol ≡ left.now.symbol }

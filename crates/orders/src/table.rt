@@ -4,7 +4,7 @@ ghost use Rattle.kinds.specs.Costs.{cost, costs};
 ghost use Rattle.trees.specs.Lists.{tree_of};
 ghost use Rattle.rules.specs.Weighing.{Says};
 ghost use Rattle.rules.specs.Books.{Opens, added};
-ghost use Rattle.rules.specs.Measures.{ranks as measure-ranks};
+ghost use Rattle.rules.specs.Measures.{ranks as measure_ranks};
 ghost use Rattle.tables.specs.Images.{draft_holds, closed_holds, SameDraft, SameClosed};
 ghost use Rattle.orders.specs.Symbols.{order_ranks};
 ghost use Rattle.orders.specs.Tables.{line_rule, lines_added, order_table, SaysOrder};
@@ -60,7 +60,7 @@ fn add_lines(draft: &mut Draft<'_, Cost>, lines: &[Line]) -> Result<(), Refusal>
 
 // The size of the table.
 fn measured() -> Result<Measure, Refusal>
-    ensures { IfOk result (λ m. (measure-ranks m ≡ order_ranks) × (m.states ≡ 11)) }
+    ensures { IfOk result (λ m. (measure_ranks m ≡ order_ranks) × (m.states ≡ 11)) }
 {
     let mut measure = Measure::fresh();
     measure.measure(&ranks(), 11)?;

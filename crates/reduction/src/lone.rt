@@ -2,7 +2,7 @@
 ghost use Rattle.std.specs.Prelude.{◌≡◌, ℕ, ◌<◌, true, List, map, length, slice_set};
 ghost use Rattle.std.specs.List.{ContainsAt as Has};
 ghost use Rattle.automata.specs.Trees.{rank};
-ghost use Rattle.automata.specs.Automata.{find as find-rule};
+ghost use Rattle.automata.specs.Automata.{find as find_rule};
 ghost use Rattle.automata.specs.Merging.{keeps};
 ghost use Rattle.rules.specs.Shapes.{ranks_in, transition, automaton};
 ghost use Rattle.liveness.specs.Reaching.{children_in};
@@ -23,7 +23,7 @@ fn leads_on<W: Kind>(
     symbol: usize,
     children: &[usize],
 ) -> bool
-    ensures { (ranks : List ℕ) → length children.now ≡ rank ranks symbol → result ≡ live_target (set_in live.now) (find-rule (map (transition W.Kind.stands ranks) rules.now) symbol children.now) }
+    ensures { (ranks : List ℕ) → length children.now ≡ rank ranks symbol → result ≡ live_target (set_in live.now) (find_rule (map (transition W.Kind.stands ranks) rules.now) symbol children.now) }
 {
     match rule_for(rules, symbol, children) {
         Some(rule) => is_set(live, usize::from(rule.target)),
@@ -41,7 +41,7 @@ fn has_counterpart<W: Kind>(
     other: usize,
 ) -> bool
     requires { place < rank (ranks_in shape.now) left.now.symbol }
-    ensures found { result ≡ live_target (set_in live.now) (find-rule (automaton W.Kind.stands shape.now rules.now).rules left.now.symbol (slice_set (children_in shape.now left.now) place other)) }
+    ensures found { result ≡ live_target (set_in live.now) (find_rule (automaton W.Kind.stands shape.now rules.now).rules left.now.symbol (slice_set (children_in shape.now left.now) place other)) }
     ensures four { length left.now.children ≡ 4 }
 {
     let rank = shape.rank(usize::from(left.symbol));

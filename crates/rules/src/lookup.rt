@@ -2,7 +2,7 @@
 ghost use Rattle.std.specs.Prelude.{◌≡◌, ℕ, ◌<◌, List, map, length, take, slice_index_or};
 ghost use Rattle.std.specs.Option.{option_map};
 ghost use Rattle.automata.specs.Trees.{rank};
-ghost use Rattle.automata.specs.Automata.{same_list, find as find-rule};
+ghost use Rattle.automata.specs.Automata.{same_list, find as find_rule};
 ghost use Rattle.rules.specs.Lookup.{has_left, position};
 ghost use Rattle.rules.specs.Shapes.{transition};
 
@@ -54,7 +54,7 @@ fn rule_at<W: Kind>(rules: &[Rule<W>], place: usize) -> Rule<W>
 
 // The first rule with the left side `symbol(children)`, for as many children as the symbol's rank.
 pub fn rule_for<W: Kind>(rules: &[Rule<W>], symbol: usize, children: &[usize]) -> Option<Rule<W>>
-    ensures { (ranks : List ℕ) → length children.now ≡ rank ranks symbol → option_map (transition W.Kind.stands ranks) result ≡ find-rule (map (transition W.Kind.stands ranks) rules.now) symbol children.now }
+    ensures { (ranks : List ℕ) → length children.now ≡ rank ranks symbol → option_map (transition W.Kind.stands ranks) result ≡ find_rule (map (transition W.Kind.stands ranks) rules.now) symbol children.now }
 {
     let place = find(rules, symbol, children)?;
     Some(rule_at(rules, place))

@@ -6,7 +6,7 @@ use Rattle.comparison.proofs.exploring_taking.note_pair.Goals as goal
 
 pub returns : goal.returns
 returns g c a b f s p q x y =
-    let W = g.W.Weight.Denot in
+    let W = g.row.W-Weight.Denot in
     let one : At W = at_of g.W.Kind.stands c.in-Some.one in
     let other : At W = at_of g.W.Kind.stands c.in-Some-run-of.other in
     let h = c.in-Some.ensures in

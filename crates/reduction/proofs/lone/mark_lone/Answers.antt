@@ -19,7 +19,7 @@ loop-i-preserved g c =
     let K = g.W.Kind.weights in
     let A = automaton g.W.Kind.stands c.args.shape.now c.args.rules.now in
     let live = set_in c.args.live.now in
-    below_onward K A live (λ i t. (r : Transition g.W.Weight.Denot) → slice_get A.rules i ≡ Some r → LoneRule K A live r t) (λ i s s' h n r e k q. noted_kept K A live r k q s s' h (n r e k q)) c.args.marks.now c.loop-i.marks c.lone_rule.new.marks c.loop-i.i c.lone_rule.ensures.grown
+    below_onward K A live (λ i t. (r : Transition g.row.W-Weight.Denot) → slice_get A.rules i ≡ Some r → LoneRule K A live r t) (λ i s s' h n r e k q. noted_kept K A live r k q s s' h (n r e k q)) c.args.marks.now c.loop-i.marks c.lone_rule.new.marks c.loop-i.i c.lone_rule.ensures.grown
     (at_mapped (transition g.W.Kind.stands (ranks_in c.args.shape.now)) c.args.rules.now c.loop-i.i c.index-rules-i.result c.loop-i-test.true c.index-rules-i.is (λ r. LoneRule K A live r c.lone_rule.new.marks) c.lone_rule.ensures.noted) c.loop-i.invariant
 
 pub returns : goal.returns

@@ -10,5 +10,5 @@ use Rattle.reduction.proofs.lone.mark_lone.Given as goal
 abbrev pub invariant-loop-i : goal.invariant-loop-i
 invariant-loop-i g l =
     Below g.W.Kind.weights (automaton g.W.Kind.stands l.shape l.rules) (set_in l.live)
-    (λ i t. (r : Transition g.W.Weight.Denot) → slice_get (automaton g.W.Kind.stands l.shape l.rules).rules i ≡ Some r → LoneRule g.W.Kind.weights (automaton g.W.Kind.stands l.shape l.rules) (set_in l.live) r t)
+    (λ i t. (r : Transition g.row.W-Weight.Denot) → slice_get (automaton g.W.Kind.stands l.shape l.rules).rules i ≡ Some r → LoneRule g.W.Kind.weights (automaton g.W.Kind.stands l.shape l.rules) (set_in l.live) r t)
     l.initial.marks l.marks l.i
