@@ -4,6 +4,7 @@
 usage: tools/respell.py [FOLDER]      FOLDER: the top of a checkout; its crates/ and wip/ are rewritten in place
 
 A name is respelled if a file of specs/ or proofs/ declares it, or binds it as a variable, with a hyphen in it (or, a type, with an underscore).
+A name that a file imports from the standard library stays in that file.
 Names that the check makes from the source (behind goal. and c., and the fields x-is of a variable) stay.
 """
 import os
@@ -15,8 +16,12 @@ ANSWERS = ("Answers.antt", "Invariants.antt", "Choices.antt")
 # Variables with a hyphen that are no names of the standard library.
 VARIABLES = """first-rules second-rules short-s short-t all-m all-n all-xs all-ys fits-e fits-f fits-y fits-z e-second tered-cons x-is y-is
 n-other yes-parts none-given true-first cut-s cut-t is-s is-t rest-s rest-t is-ten is-fine one-accepting s-is ps-is e-is same-p same-q n-is
-one-is other-is now-trees other-low a-is b-is is-other zero-link""".split()
+one-is other-is now-trees other-low a-is b-is is-other zero-link find-rule measure-ranks""".split()
 DECLARED = re.compile(r"(?m)^ *(?:(?:abbrev|unfoldable|pub|record|data) )*(%s)(?: \{[^{}\n]*\}| \([^\n]*?\))* : (.*)" % NAME)
+
+
+# What a file imports from a library keeps its name there.
+LIBRARY = re.compile(r"(?m)\buse (?:Rattle\.std\.|lib\.|mathlib\.|denote\.)[^{\n]*\{([^}]*)\}")
 
 
 def bare(text):
@@ -66,6 +71,10 @@ def main(top):
             own.update({name: respelled(name, False) for name in VARIABLES})
         with open(path, encoding="utf-8") as f:
             text = f.read()
+
+        for it in LIBRARY.finditer(text):
+            for name in re.findall(NAME, it[1]):
+                own.pop(name, None)
 
         def turn(it):
             if is_answer and text[max(0, it.start() - 2):it.start()] == "w." and it[0].endswith("-is"):

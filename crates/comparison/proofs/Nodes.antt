@@ -1,6 +1,6 @@
 -- Nodes over entries: the node of a left side over the entries of its states, and the node with another child.
 use Rattle.std.proofs.Common.{◌≡◌, ℕ, ◌+◌, ◌<◌, ◌≤◌, List, map, length, get_or, take, set, replicate, sym, refl, ap, ◌∙◌, subst, ⊎_elim, arith}
-use lib.Seq.{take_set_lt}
+use lib.Seq.{take-set-lt}
 use Rattle.std.specs.List.{AllByRecursion as All}
 use Rattle.std.proofs.ByRecursion.{All-get_or}
 use Rattle.std.proofs.lemmas.List.{same_lists, length-take-le, length-map, length-set, get_or-take, get_or-map, get_or_default, get_or-set_same, get_or-set_other}
@@ -75,6 +75,6 @@ module _ (ranks : List ℕ) (s : ℕ) (cs : List ℕ) (n : Node) (small : rank r
       record {
         symbol = over.symbol;
         four = length-set n.children k e ∙ over.four;
-        children = take_set_lt (rank ranks n.symbol) n.children k e (omega arith) ∙ ap (λ xs. set xs k e) over.children;
+        children = take-set-lt (rank ranks n.symbol) n.children k e (omega arith) ∙ ap (λ xs. set xs k e) over.children;
         padded = λ j l h. get_or-set_other n.children k j e 0 (λ i. omega arith) ∙ over.padded j l h;
       }

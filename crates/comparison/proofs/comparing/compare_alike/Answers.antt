@@ -1,8 +1,8 @@
 use Rattle.comparison.proofs.comparing.compare_alike.Goals as goal
 
-pub compare-sound-requires : goal.compare-sound-requires
-compare-sound-requires g c = record {
-  matched = record { first_sound = c.is-sound.ensures.0 c.if-not-is-sound.false; second_sound = c.is-sound-2.ensures.0 c.if-not-is-sound-2.false; alphabet = c.requires.same };
-  list-room = c.requires.list-room;
-  work-room = c.requires.work-room;
+pub compare_sound-requires : goal.compare_sound-requires
+compare_sound-requires g c = record {
+  matched = record { first_sound = c.is_sound.ensures.0 c.if-not-is_sound.false; second_sound = c.is_sound-2.ensures.0 c.if-not-is_sound-2.false; alphabet = c.requires.same };
+  list_room = c.requires.list_room;
+  work_room = c.requires.work_room;
 }

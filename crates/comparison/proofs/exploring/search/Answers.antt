@@ -11,42 +11,42 @@ loop-finding-init g c = (
   passed_none g.W.Kind.weights (two g.W.Kind.stands c.args.tables.now) (runs_in g.W.Kind.stands c.args.work.now) (number_at c.new-pairs.result) c.args.base,
 )
 
-pub scan-at-finding-requires : goal.scan-at-finding-requires
-scan-at-finding-requires g c = record {
+pub scan_at-finding-requires : goal.scan_at-finding-requires
+scan_at-finding-requires g c = record {
   same = c.requires.same;
   within = search_within g.W.Kind.weights g.W.Kind.stands c.args.tables.now c.args.work.now c.args.base c.requires.live c.loop-finding.work (number_at c.loop-finding.pairs) c.loop-finding.len c.loop-finding.invariant.0;
   quiet = c.loop-finding.invariant.1.quiet;
 }
 
-pub returns-in-default : goal.returns-in-default
-returns-in-default g c =
-    search_settled g.W.Kind.weights g.W.Kind.stands c.args.tables.now c.args.work.now c.args.base c.requires.live c.loop-finding.work (number_at c.loop-finding.pairs) c.loop-finding.len c.loop-finding.invariant.0 c.loop-finding.cursor c.requires.same c.loop-finding.invariant.1 c.in-default.ensures
+pub returns-in_default : goal.returns-in_default
+returns-in_default g c =
+    search_settled g.W.Kind.weights g.W.Kind.stands c.args.tables.now c.args.work.now c.args.base c.requires.live c.loop-finding.work (number_at c.loop-finding.pairs) c.loop-finding.len c.loop-finding.invariant.0 c.loop-finding.cursor c.requires.same c.loop-finding.invariant.1 c.in_default.ensures
 
-pub loop-finding-smaller-then-is-clear : goal.loop-finding-smaller-then-is-clear
-loop-finding-smaller-then-is-clear g c =
+pub loop-finding-smaller-then-is_clear : goal.loop-finding-smaller-then-is_clear
+loop-finding-smaller-then-is_clear g c =
     cursor_falls g.W.Kind.weights g.W.Kind.stands c.args.tables.now c.args.work.now c.args.base (runs_in g.W.Kind.stands c.loop-finding.work) (number_at c.loop-finding.pairs) (length c.args.work.now) c.loop-finding.len c.loop-finding.cursor c.in-Some.next c.loop-finding.invariant.1 c.in-Some.ensures
 
-pub loop-finding-preserved-then-is-clear : goal.loop-finding-preserved-then-is-clear
-loop-finding-preserved-then-is-clear g c = (
+pub loop-finding-preserved-then-is_clear : goal.loop-finding-preserved-then-is_clear
+loop-finding-preserved-then-is_clear g c = (
   c.loop-finding.invariant.0,
-  cursor_on g.W.Kind.weights g.W.Kind.stands c.args.tables.now c.args.work.now c.args.base (runs_in g.W.Kind.stands c.loop-finding.work) (number_at c.loop-finding.pairs) c.loop-finding.len c.loop-finding.cursor c.in-Some.next (c.scan-at-finding.ensures.clear (sym c.if-is-clear.ensures)) c.loop-finding.invariant.1 c.in-Some.ensures,
+  cursor_on g.W.Kind.weights g.W.Kind.stands c.args.tables.now c.args.work.now c.args.base (runs_in g.W.Kind.stands c.loop-finding.work) (number_at c.loop-finding.pairs) c.loop-finding.len c.loop-finding.cursor c.in-Some.next (c.scan_at-finding.ensures.clear (sym c.if-is_clear.ensures)) c.loop-finding.invariant.1 c.in-Some.ensures,
 )
 
-pub take-up-requires : goal.take-up-requires
-take-up-requires g c =
+pub take_up-requires : goal.take_up-requires
+take_up-requires g c =
     let bound = search_bound g.W.Kind.weights g.W.Kind.stands c.args.tables.now c.args.work.now c.args.base c.requires.live c.loop-finding.work (number_at c.loop-finding.pairs) c.loop-finding.len c.loop-finding.invariant.0 in
     record {
       same = c.requires.same;
       room = omega (arith, bound, c.requires.room, c.loop-finding.auto.work);
       earlier = search_earlier g.W.Kind.weights g.W.Kind.stands c.args.tables.now c.args.work.now c.args.base c.requires.live c.loop-finding.work (number_at c.loop-finding.pairs) c.loop-finding.len c.loop-finding.invariant.0;
-      dim = sym c.if-is-clear.ensures;
-      told = c.scan-at-finding.ensures.found (sym c.if-is-clear.ensures);
+      dim = sym c.if-is_clear.ensures;
+      told = c.scan_at-finding.ensures.found (sym c.if-is_clear.ensures);
     }
 
-pub returns-in-Some-take-up : goal.returns-in-Some-take-up
-returns-in-Some-take-up g c =
-    search_ended g.W.Kind.weights g.W.Kind.stands c.args.tables.now c.args.work.now c.args.base c.requires.live c.loop-finding.work (number_at c.loop-finding.pairs) c.loop-finding.len c.loop-finding.invariant.0 c.take-up.new.work (number_at c.take-up.new.pairs) c.in-Some-take-up.outcome
-    (c.in-Some-take-up.ensures c.args.base c.loop-finding.invariant.0.longer c.requires.live c.loop-finding.invariant.0.forest c.loop-finding.invariant.0.pairing)
+pub returns-in-Some-take_up : goal.returns-in-Some-take_up
+returns-in-Some-take_up g c =
+    search_ended g.W.Kind.weights g.W.Kind.stands c.args.tables.now c.args.work.now c.args.base c.requires.live c.loop-finding.work (number_at c.loop-finding.pairs) c.loop-finding.len c.loop-finding.invariant.0 c.take_up.new.work (number_at c.take_up.new.pairs) c.in-Some-take_up.outcome
+    (c.in-Some-take_up.ensures c.args.base c.loop-finding.invariant.0.longer c.requires.live c.loop-finding.invariant.0.forest c.loop-finding.invariant.0.pairing)
 
 pub loop-finding-smaller : goal.loop-finding-smaller
 loop-finding-smaller g c =
@@ -55,8 +55,8 @@ loop-finding-smaller g c =
 
 pub loop-finding-preserved : goal.loop-finding-preserved
 loop-finding-preserved g c = (
-  search_on g.W.Kind.weights g.W.Kind.stands c.args.tables.now c.args.work.now c.args.base c.requires.live c.loop-finding.work (number_at c.loop-finding.pairs) c.loop-finding.len c.loop-finding.invariant.0 c.take-up.new.work (number_at c.take-up.new.pairs)
-      (c.in-default-take-up.ensures c.args.base c.loop-finding.invariant.0.longer c.requires.live c.loop-finding.invariant.0.forest c.loop-finding.invariant.0.pairing),
-  passed_found g.W.Kind.weights (two g.W.Kind.stands c.args.tables.now) (runs_in g.W.Kind.stands c.loop-finding.work) (number_at c.loop-finding.pairs) (runs_in g.W.Kind.stands c.take-up.new.work) (number_at c.take-up.new.pairs) c.loop-finding.len c.loop-finding.cursor
-      (c.in-default-take-up.ensures c.args.base c.loop-finding.invariant.0.longer c.requires.live c.loop-finding.invariant.0.forest c.loop-finding.invariant.0.pairing).1 c.loop-finding.invariant.1,
+  search_on g.W.Kind.weights g.W.Kind.stands c.args.tables.now c.args.work.now c.args.base c.requires.live c.loop-finding.work (number_at c.loop-finding.pairs) c.loop-finding.len c.loop-finding.invariant.0 c.take_up.new.work (number_at c.take_up.new.pairs)
+      (c.in_default-take_up.ensures c.args.base c.loop-finding.invariant.0.longer c.requires.live c.loop-finding.invariant.0.forest c.loop-finding.invariant.0.pairing),
+  passed_found g.W.Kind.weights (two g.W.Kind.stands c.args.tables.now) (runs_in g.W.Kind.stands c.loop-finding.work) (number_at c.loop-finding.pairs) (runs_in g.W.Kind.stands c.take_up.new.work) (number_at c.take_up.new.pairs) c.loop-finding.len c.loop-finding.cursor
+      (c.in_default-take_up.ensures c.args.base c.loop-finding.invariant.0.longer c.requires.live c.loop-finding.invariant.0.forest c.loop-finding.invariant.0.pairing).1 c.loop-finding.invariant.1,
 )

@@ -8,9 +8,9 @@ pub returns : goal.returns
 returns g c a b f s p q x y =
     let W = g.row.W-Weight.Denot in
     let one : At W = at_of g.W.Kind.stands c.in-Some.one in
-    let other : At W = at_of g.W.Kind.stands c.in-Some-run-of.other in
+    let other : At W = at_of g.W.Kind.stands c.in-Some-run_of.other in
     let h = c.in-Some.ensures in
-    let k = c.in-Some-run-of.ensures in
+    let k = c.in-Some-run_of.ensures in
     let a-is : one ≡ a = cc in
     let b-is : other ≡ b = cc in
     let same : one.state ≡ a.state = ap (λ (z : At W). z.state) a-is in

@@ -20,9 +20,9 @@ returns-then-differs g c base low live forest pairing =
 pub returns-else-differs : goal.returns-else-differs
 returns-else-differs g c base low live forest pairing =
     let R = runs_in g.W.Kind.stands c.plant.new.work in
-    taken_new g.W.Kind.weights g.W.Kind.stands c.args.tables.now c.args.work.now c.plant.new.work (number_at c.args.pairs.now) c.args.len c.args.finding c.requires.same c.requires.room c.requires.told c.plant.ensures.grown c.plant.ensures.nodes c.plant.ensures.before base low live forest pairing (number_at c.note-pair.new.pairs) c.in-NewPair.is
+    taken_new g.W.Kind.weights g.W.Kind.stands c.args.tables.now c.args.work.now c.plant.new.work (number_at c.args.pairs.now) c.args.len c.args.finding c.requires.same c.requires.room c.requires.told c.plant.ensures.grown c.plant.ensures.nodes c.plant.ensures.before base low live forest pairing (number_at c.note_pair.new.pairs) c.in-NewPair.is
     (not_different g.W.Kind.weights c.differs.result (weight_by (accepts_in c.args.tables.now.first.now) (R First c.args.len)) (weight_by (accepts_in c.args.tables.now.second.now) (R Second c.args.len)) c.differs.ensures c.if-differs.false)
-    c.note-pair.ensures
+    c.note_pair.ensures
 
 pub returns-in-Lone : goal.returns-in-Lone
 returns-in-Lone g c base low live forest pairing =

@@ -16,7 +16,7 @@ returns g c =
     let R = runs_in g.W.Kind.stands c.args.work.now in
     let s = c.args.node.now.symbol in
     let es = children_of (ranks_in c.args.tables.now.first.now) c.args.node.now in
-    judged_same K R (number_at c.args.pairs.now) _ (node_run K T R First s es) _ (node_run K T R Second s es) c.verdict-of.result
-    (c.live-run-first.ensures ∙ ap (to_live T.first_live) c.run-node-first.ensures)
-    (c.live-run-second.ensures ∙ ap (to_live T.second_live) (c.run-node-second.ensures ∙ ap (λ (rs : List ℕ). step K T.second s (row_runs K (map (R Second) (children_of rs c.args.node.now)))) (sym c.requires)))
-    c.verdict-of.ensures
+    judged_same K R (number_at c.args.pairs.now) _ (node_run K T R First s es) _ (node_run K T R Second s es) c.verdict_of.result
+    (c.live_run-first.ensures ∙ ap (to_live T.first_live) c.run_node-first.ensures)
+    (c.live_run-second.ensures ∙ ap (to_live T.second_live) (c.run_node-second.ensures ∙ ap (λ (rs : List ℕ). step K T.second s (row_runs K (map (R Second) (children_of rs c.args.node.now)))) (sym c.requires)))
+    c.verdict_of.ensures

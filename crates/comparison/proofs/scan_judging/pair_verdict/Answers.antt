@@ -9,10 +9,10 @@ pub returns-then-number-eq0 : goal.returns-then-number-eq0
 returns-then-number-eq0 g c =
     judged_new g.W.Kind.weights (runs_in g.W.Kind.stands c.args.work.now) (number_at c.args.pairs.now) (at_of g.W.Kind.stands c.args.first) (at_of g.W.Kind.stands c.args.second) c.get-number.result c.get-number.ensures c.if-number-eq0.true
 
-pub returns-then-is-even : goal.returns-then-is-even
-returns-then-is-even g c =
-    judged_clear g.W.Kind.weights (runs_in g.W.Kind.stands c.args.work.now) (number_at c.args.pairs.now) (at_of g.W.Kind.stands c.args.first) (at_of g.W.Kind.stands c.args.second) c.get-number.result c.get-number.ensures c.if-number-eq0.false (c.if-is-even.ensures.even refl)
+pub returns-then-is_even : goal.returns-then-is_even
+returns-then-is_even g c =
+    judged_clear g.W.Kind.weights (runs_in g.W.Kind.stands c.args.work.now) (number_at c.args.pairs.now) (at_of g.W.Kind.stands c.args.first) (at_of g.W.Kind.stands c.args.second) c.get-number.result c.get-number.ensures c.if-number-eq0.false (c.if-is_even.ensures.even refl)
 
-pub returns-else-is-even : goal.returns-else-is-even
-returns-else-is-even g c =
-    judged_uneven g.W.Kind.weights (runs_in g.W.Kind.stands c.args.work.now) (number_at c.args.pairs.now) (at_of g.W.Kind.stands c.args.first) (at_of g.W.Kind.stands c.args.second) c.get-number.result c.get-number.ensures c.if-number-eq0.false (c.if-is-even.ensures.uneven refl)
+pub returns-else-is_even : goal.returns-else-is_even
+returns-else-is_even g c =
+    judged_uneven g.W.Kind.weights (runs_in g.W.Kind.stands c.args.work.now) (number_at c.args.pairs.now) (at_of g.W.Kind.stands c.args.first) (at_of g.W.Kind.stands c.args.second) c.get-number.result c.get-number.ensures c.if-number-eq0.false (c.if-is_even.ensures.uneven refl)

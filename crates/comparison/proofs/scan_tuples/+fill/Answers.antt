@@ -5,7 +5,7 @@ use Rattle.pairs.specs.Cells.{number_at}
 use Rattle.comparison.specs.Scanning.{two, runs_in, number_by, is_clear, ClearOver, Filled}
 use Rattle.comparison.proofs.Tuples.{filled_by, each_more, each_here, each_none, over_all, over_each, tells_last, clear_last}
 use Rattle.comparison.proofs.scan_tuples.+fill.Goals as goal
-use Rattle.comparison.proofs.scan_tuples.+fill.Goals.{then-number-gt0+else-not-is-clear, else-number-gt0}
+use Rattle.comparison.proofs.scan_tuples.+fill.Goals.{then-number-gt0+else-not-is_clear, else-number-gt0}
 
 pub returns-then-place-rank : goal.returns-then-place-rank
 returns-then-place-rank g t c =
@@ -23,15 +23,15 @@ returns-then-place-rank g t c =
 pub fill-finding-requires : goal.fill-finding-requires
 fill-finding-requires g t c κs within =
     let N = number_at c.args.pairs.now in
-    let known : number_by c.args.side N c.from-state.result c.loop-q.q ≡ suc (c.number-by-number.result - 1) = sym c.number-by-number.ensures ∙ (omega arith) in
+    let known : number_by c.args.side N c.from-state.result c.loop-q.q ≡ suc (c.number_by-number.result - 1) = sym c.number_by-number.ensures ∙ (omega arith) in
     let room : c.args.place < length c.args.node.children = omega (arith, c.requires.filled.four) in
-    let filled : Filled N (c.args.place + 1) c.with-child.result =
-    filled_by N c.args.side c.args.place (c.number-by-number.result - 1) c.from-state.result c.loop-q.q c.args.node c.with-child.result room c.with-child.ensures.children known c.requires.filled in
+    let filled : Filled N (c.args.place + 1) c.with_child.result =
+    filled_by N c.args.side c.args.place (c.number_by-number.result - 1) c.from-state.result c.loop-q.q c.args.node c.with_child.result room c.with_child.ensures.children known c.requires.filled in
     search rules
 
-pub returns-then-not-is-clear : goal.returns-then-not-is-clear
-returns-then-not-is-clear g t c = record {
-  clear = λ e. absurd (both_ways (is_clear c.fill-finding.result.verdict) (sym c.if-not-is-clear.ensures) e);
+pub returns-then-not-is_clear : goal.returns-then-not-is_clear
+returns-then-not-is_clear g t c = record {
+  clear = λ e. absurd (both_ways (is_clear c.fill-finding.result.verdict) (sym c.if-not-is_clear.ensures) e);
   found = c.fill-finding.ensures.found;
 }
 
@@ -46,14 +46,14 @@ loop-q-preserved g t c =
     let ps = drop (c.args.place + 1) (take c.args.rank c.args.left.now.children) in
     let room : c.args.place < length c.args.node.children = omega (arith, c.requires.filled.four) in
     elim c.if-number-gt0.branch [
-      | then-number-gt0+else-not-is-clear w ↦ each_more K T R N c.args.side s before c.from-state.result ps c.loop-q.q
-          (each_here K T R N c.args.side s before c.from-state.result c.loop-q.q c.number-by-number.result ps c.number-by-number.ensures
+      | then-number-gt0+else-not-is_clear w ↦ each_more K T R N c.args.side s before c.from-state.result ps c.loop-q.q
+          (each_here K T R N c.args.side s before c.from-state.result c.loop-q.q c.number_by-number.result ps c.number_by-number.ensures
           (subst (λ (xs : List ℕ). ClearOver K T R N c.args.side s xs ps)
-          (ap (take (c.args.place + 1)) w.with-child.ensures.children ∙ take_more_set c.args.node.children c.args.place (c.number-by-number.result - 1) room)
-          (w.fill-finding.ensures.clear (sym w.if-not-is-clear.ensures))))
+          (ap (take (c.args.place + 1)) w.with_child.ensures.children ∙ take_more_set c.args.node.children c.args.place (c.number_by-number.result - 1) room)
+          (w.fill-finding.ensures.clear (sym w.if-not-is_clear.ensures))))
           c.loop-q.invariant
       | else-number-gt0 w ↦ each_more K T R N c.args.side s before c.from-state.result ps c.loop-q.q
-          (each_none K T R N c.args.side s before c.from-state.result c.loop-q.q c.number-by-number.result ps c.number-by-number.ensures w.if-number-gt0.false)
+          (each_none K T R N c.args.side s before c.from-state.result c.loop-q.q c.number_by-number.result ps c.number_by-number.ensures w.if-number-gt0.false)
           c.loop-q.invariant
     ]
 

@@ -13,19 +13,19 @@ returns-then-symbol-len g c =
     let past : c.len.result ≤ c.args.rule.now.left.symbol = omega (arith, c.from-symbol.ensures) in
     record { clear = λ e h. absurd (omega arith); found = λ e. absurd (true≢false e) }
 
-pub returns-then-not-is-live-on : goal.returns-then-not-is-live-on
-returns-then-not-is-live-on g c = record {
+pub returns-then-not-is_live_on : goal.returns-then-not-is_live_on
+returns-then-not-is_live_on g c = record {
   clear = λ e h live.
       let T = two g.W.Kind.stands c.args.tables.now in
-      absurd (both_ways (live_on T c.args.side c.args.rule.now.target) (ap (live_on T c.args.side) (sym c.from.ensures) ∙ sym c.if-not-is-live-on.ensures) live);
+      absurd (both_ways (live_on T c.args.side c.args.rule.now.target) (ap (live_on T c.args.side) (sym c.from.ensures) ∙ sym c.if-not-is_live_on.ensures) live);
   found = λ e. absurd (true≢false e);
 }
 
-pub returns-then-is-rested : goal.returns-then-is-rested
-returns-then-is-rested g c =
+pub returns-then-is_rested : goal.returns-then-is_rested
+returns-then-is_rested g c =
     let N = number_at c.args.pairs.now in
     let cut : c.rank-rank.result ≡ rank (ranks_in c.args.tables.now.first.now) c.args.rule.now.left.symbol = c.rank-rank.ensures.value ∙ ap (rank (ranks_in c.args.tables.now.first.now)) c.from-symbol.ensures in
-    let early = c.is-rested.ensures c.if-is-rested.true in
+    let early = c.is_rested.ensures c.if-is_rested.true in
     record {
       clear = λ e. c.requires.quiet early.0 early.1 (subst (λ (n : ℕ). Rested c.args.side N early.0 (take n c.args.rule.now.left.children)) cut early.2);
       found = λ e. absurd (true≢false e);

@@ -8,7 +8,7 @@ loop-k-init c = filling_none c.args.entry.now c.args.left.now.children
 
 pub loop-k-preserved : goal.loop-k-preserved
 loop-k-preserved c =
-    filling_more c.args.entry.now c.args.left.now.children c.loop-k.children c.loop-k.k c.number-of.result c.from.result (omega arith) c.from.ensures c.number-of.ensures c.loop-k.invariant
+    filling_more c.args.entry.now c.args.left.now.children c.loop-k.children c.loop-k.k c.number_of.result c.from.result (omega arith) c.from.ensures c.number_of.ensures c.loop-k.invariant
 
 pub returns : goal.returns
 returns c =

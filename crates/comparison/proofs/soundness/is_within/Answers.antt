@@ -4,4 +4,4 @@ use Rattle.comparison.proofs.soundness.is_within.Goals as goal
 
 pub returns : goal.returns
 returns g c =
-    within_by g.W.Kind.stands c.args.shape.now c.args.rule.now c.are-states.result c.are-states.ensures.four (omega (arith, ap length c.alphabet.ensures)) (omega arith) c.are-states.ensures.below
+    within_by g.W.Kind.stands c.args.shape.now c.args.rule.now c.are_states.result c.are_states.ensures.four (omega (arith, ap length c.alphabet.ensures)) (omega arith) c.are_states.ensures.below

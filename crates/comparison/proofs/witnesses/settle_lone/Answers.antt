@@ -8,36 +8,36 @@ use Rattle.comparison.specs.Witnesses.{places_needed}
 use Rattle.comparison.proofs.Endings.{enough_lone, found_within, lonely_first, lonely_second}
 use Rattle.comparison.proofs.witnesses.settle_lone.Goals as goal
 
-pub lone-top-requires : goal.lone-top-requires
-lone-top-requires g c =
+pub lone_top-requires : goal.lone_top-requires
+lone_top-requires g c =
     let s = c.requires.searched in
-    let ends = subst (λ (x : Side). Ends g.W.Kind.weights (two_of g.W.Kind.stands c.args.first.now c.args.first-rules.now c.args.one.now.life c.args.second.now c.args.second-rules.now c.args.two.now.life) (runs_in g.W.Kind.stands c.args.work.now) c.args.len (Lone x c.args.entry)) c.in-First.is c.requires.ends in
+    let ends = subst (λ (x : Side). Ends g.W.Kind.weights (two_of g.W.Kind.stands c.args.first.now c.args.first_rules.now c.args.one.now.life c.args.second.now c.args.second_rules.now c.args.two.now.life) (runs_in g.W.Kind.stands c.args.work.now) c.args.len (Lone x c.args.entry)) c.in-First.is c.requires.ends in
     record {
       matched = s.matched;
       forest = s.forest;
       known = s.first_known;
       below = ends.0;
       room = omega (arith, s.room, (enough_lone (states_in c.args.first.now) (states_in c.args.second.now) c.args.len s.few).0);
-      lonely = lonely_first g.W.Kind.weights g.W.Kind.stands c.args.first.now c.args.second.now c.args.first-rules.now c.args.second-rules.now c.args.one.now c.args.two.now c.args.work.now c.args.len s c.args.entry ends;
+      lonely = lonely_first g.W.Kind.weights g.W.Kind.stands c.args.first.now c.args.second.now c.args.first_rules.now c.args.second_rules.now c.args.one.now c.args.two.now c.args.work.now c.args.len s c.args.entry ends;
     }
 
-pub lone-top-requires-in-Second : goal.lone-top-requires-in-Second
-lone-top-requires-in-Second g c =
+pub lone_top-requires-in-Second : goal.lone_top-requires-in-Second
+lone_top-requires-in-Second g c =
     let s = c.requires.searched in
-    let ends = subst (λ (x : Side). Ends g.W.Kind.weights (two_of g.W.Kind.stands c.args.first.now c.args.first-rules.now c.args.one.now.life c.args.second.now c.args.second-rules.now c.args.two.now.life) (runs_in g.W.Kind.stands c.args.work.now) c.args.len (Lone x c.args.entry)) c.in-Second.is c.requires.ends in
+    let ends = subst (λ (x : Side). Ends g.W.Kind.weights (two_of g.W.Kind.stands c.args.first.now c.args.first_rules.now c.args.one.now.life c.args.second.now c.args.second_rules.now c.args.two.now.life) (runs_in g.W.Kind.stands c.args.work.now) c.args.len (Lone x c.args.entry)) c.in-Second.is c.requires.ends in
     record {
       matched = s.matched;
       forest = s.forest;
       known = s.second_known;
       below = ends.0;
       room = omega (arith, s.room, (enough_lone (states_in c.args.first.now) (states_in c.args.second.now) c.args.len s.few).1);
-      lonely = lonely_second g.W.Kind.weights g.W.Kind.stands c.args.first.now c.args.second.now c.args.first-rules.now c.args.second-rules.now c.args.one.now c.args.two.now c.args.work.now c.args.len s c.args.entry ends;
+      lonely = lonely_second g.W.Kind.weights g.W.Kind.stands c.args.first.now c.args.second.now c.args.first_rules.now c.args.second_rules.now c.args.one.now c.args.two.now c.args.work.now c.args.len s c.args.entry ends;
     }
 
 pub returns-in-First : goal.returns-in-First
 returns-in-First g c =
-    found_within g.W.Kind.weights g.W.Kind.stands (automaton g.W.Kind.stands c.args.first.now c.args.first-rules.now) (automaton g.W.Kind.stands c.args.second.now c.args.second-rules.now) (c.args.len + states_in c.args.first.now) (places_needed (automaton g.W.Kind.stands c.args.first.now c.args.first-rules.now) (automaton g.W.Kind.stands c.args.second.now c.args.second-rules.now)) c.lone-top.new.work c.lone-top.result (enough_lone (states_in c.args.first.now) (states_in c.args.second.now) c.args.len c.requires.searched.few).0 c.lone-top.ensures
+    found_within g.W.Kind.weights g.W.Kind.stands (automaton g.W.Kind.stands c.args.first.now c.args.first_rules.now) (automaton g.W.Kind.stands c.args.second.now c.args.second_rules.now) (c.args.len + states_in c.args.first.now) (places_needed (automaton g.W.Kind.stands c.args.first.now c.args.first_rules.now) (automaton g.W.Kind.stands c.args.second.now c.args.second_rules.now)) c.lone_top.new.work c.lone_top.result (enough_lone (states_in c.args.first.now) (states_in c.args.second.now) c.args.len c.requires.searched.few).0 c.lone_top.ensures
 
 pub returns-in-Second : goal.returns-in-Second
 returns-in-Second g c =
-    found_within g.W.Kind.weights g.W.Kind.stands (automaton g.W.Kind.stands c.args.first.now c.args.first-rules.now) (automaton g.W.Kind.stands c.args.second.now c.args.second-rules.now) (c.args.len + states_in c.args.second.now) (places_needed (automaton g.W.Kind.stands c.args.first.now c.args.first-rules.now) (automaton g.W.Kind.stands c.args.second.now c.args.second-rules.now)) c.lone-top-in-Second.new.work c.lone-top-in-Second.result (enough_lone (states_in c.args.first.now) (states_in c.args.second.now) c.args.len c.requires.searched.few).1 c.lone-top-in-Second.ensures
+    found_within g.W.Kind.weights g.W.Kind.stands (automaton g.W.Kind.stands c.args.first.now c.args.first_rules.now) (automaton g.W.Kind.stands c.args.second.now c.args.second_rules.now) (c.args.len + states_in c.args.second.now) (places_needed (automaton g.W.Kind.stands c.args.first.now c.args.first_rules.now) (automaton g.W.Kind.stands c.args.second.now c.args.second_rules.now)) c.lone_top-in-Second.new.work c.lone_top-in-Second.result (enough_lone (states_in c.args.first.now) (states_in c.args.second.now) c.args.len c.requires.searched.few).1 c.lone_top-in-Second.ensures

@@ -7,8 +7,8 @@ use Rattle.comparison.proofs.Numbers.{children_more, padding_more, children_all}
 use Rattle.comparison.proofs.Steps.{child_read}
 use Rattle.comparison.proofs.writing.renumbered.Goals as goal
 
-pub number-of-requires : goal.number-of-requires
-number-of-requires g c =
+pub number_of-requires : goal.number_of-requires
+number_of-requires g c =
     let m = marks c.args.work.now in
     let long : c.loop-k.k < length c.args.node.now.children = omega arith in
     let marked : 0 < get_or m (get_or c.args.node.now.children c.loop-k.k 0) 0 =
@@ -19,9 +19,9 @@ pub loop-k-preserved : goal.loop-k-preserved
 loop-k-preserved g c =
     let m = marks c.args.work.now in
     let wide : length c.args.node.now.children ≡ 4 = omega arith in (
-      length-set c.loop-k.children c.loop-k.k c.number-of.result ∙ c.loop-k.invariant.0,
-      children_more m c.args.node.now c.loop-k.children c.loop-k.invariant.0 wide c.loop-k.k c.number-of.result (omega arith) c.number-of.ensures c.loop-k.invariant.1,
-      padding_more m c.args.node.now c.loop-k.children c.loop-k.invariant.0 wide c.loop-k.k c.number-of.result c.loop-k.invariant.2,
+      length-set c.loop-k.children c.loop-k.k c.number_of.result ∙ c.loop-k.invariant.0,
+      children_more m c.args.node.now c.loop-k.children c.loop-k.invariant.0 wide c.loop-k.k c.number_of.result (omega arith) c.number_of.ensures c.loop-k.invariant.1,
+      padding_more m c.args.node.now c.loop-k.children c.loop-k.invariant.0 wide c.loop-k.k c.number_of.result c.loop-k.invariant.2,
     )
 
 pub returns : goal.returns

@@ -6,8 +6,8 @@ use Rattle.comparison.proofs.Kept.{kept_entries}
 use Rattle.comparison.proofs.Numbers.{drop_later}
 use Rattle.comparison.proofs.writing.write_marked.Goals as goal
 
-pub write-entry-count-requires : goal.write-entry-count-requires
-write-entry-count-requires g c =
+pub write_entry-count-requires : goal.write_entry-count-requires
+write_entry-count-requires g c =
     record {
       within = c.loop-e-test.true;
       room = omega arith;
@@ -17,9 +17,9 @@ write-entry-count-requires g c =
 
 pub loop-e-preserved : goal.loop-e-preserved
 loop-e-preserved g c = (
-  c.write-entry-count.ensures.numbering,
-  c.write-entry-count.ensures.kept ∙ c.loop-e.invariant.1,
-  c.write-entry-count.ensures.beyond ∙ drop_later c.loop-e.list c.args.list.now c.loop-e.count c.write-entry-count.result c.write-entry-count.ensures.more c.loop-e.invariant.2,
+  c.write_entry-count.ensures.numbering,
+  c.write_entry-count.ensures.kept ∙ c.loop-e.invariant.1,
+  c.write_entry-count.ensures.beyond ∙ drop_later c.loop-e.list c.args.list.now c.loop-e.count c.write_entry-count.result c.write_entry-count.ensures.more c.loop-e.invariant.2,
 )
 
 pub returns : goal.returns

@@ -6,19 +6,19 @@ use Rattle.comparison.proofs.Kept.{kept_entries}
 use Rattle.comparison.proofs.Prunes.{pruned}
 use Rattle.comparison.proofs.writing.write_tree.Goals as goal
 
-pub write-marked-requires : goal.write-marked-requires
-write-marked-requires g c =
+pub write_marked-requires : goal.write_marked-requires
+write_marked-requires g c =
     record {
       few = c.requires.few;
       room = c.requires.room;
-      entries = kept_entries c.args.work.now c.mark-used.new.work c.mark-used.ensures.kept (ranks_in c.args.shape.now) c.args.top c.requires.entries;
-      marking = c.mark-used.ensures.marking;
+      entries = kept_entries c.args.work.now c.mark_used.new.work c.mark_used.ensures.kept (ranks_in c.args.shape.now) c.args.top c.requires.entries;
+      marking = c.mark_used.ensures.marking;
     }
 
 pub returns : goal.returns
 returns g c =
-    let kept = c.write-marked.ensures.kept ∙ c.mark-used.ensures.kept in
+    let kept = c.write_marked.ensures.kept ∙ c.mark_used.ensures.kept in
     record {
-      written = pruned (ranks_in c.args.shape.now) c.args.work.now c.write-marked.new.work c.args.top (marks c.write-marked.new.work) c.args.list.now c.write-marked.new.list c.write-marked.result (rank_small c.args.shape.now.measure.alphabet) (omega arith) c.write-marked.auto.list c.requires.room c.write-marked.ensures.beyond kept c.requires.entries c.write-marked.ensures.numbering;
+      written = pruned (ranks_in c.args.shape.now) c.args.work.now c.write_marked.new.work c.args.top (marks c.write_marked.new.work) c.args.list.now c.write_marked.new.list c.write_marked.result (rank_small c.args.shape.now.measure.alphabet) (omega arith) c.write_marked.auto.list c.requires.room c.write_marked.ensures.beyond kept c.requires.entries c.write_marked.ensures.numbering;
       kept = kept;
     }
