@@ -1,5 +1,5 @@
 -- The cases that compute.
-use Rattle.std.proofs.Common.{◌≡◌, [], ◌∷◌, ℤ, pos, negsuc, ◌+ℤ◌, Some, None, Option, refl, ap, ◌∙◌, arith}
+use Rattle.std.proofs.Common.{◌≡◌, [], ◌∷◌, pos, negsuc, ◌+ℤ◌, Some, None, Option, refl, ap, ◌∙◌, arith}
 use Rattle.std.proofs.lemmas.Int.{ints}
 use Rattle.kinds.specs.declared.residue.Residue.{Residue}
 use Rattle.kinds.specs.Residues.{residues, residue_path}

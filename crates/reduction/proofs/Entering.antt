@@ -2,7 +2,6 @@
 use Rattle.std.proofs.Common.{◌≡◌, ℕ, ◌+◌, ◌<◌, ◌≤◌, Bool, true, false, List, length, get_or, set, is_some, Some, None, Option, unwrap_or, sym, refl, ap, ◌∙◌, subst, inl, inr, arith, length-set}
 use Rattle.std.proofs.lemmas.List.{get_or-set_other}
 use Rattle.std.proofs.lemmas.Bool.{both_ways}
-use Rattle.reduction.specs.declared.classes.Classes.{Classes}
 use Rattle.reduction.specs.Numbering.{UnmarkedAlike, Entered}
 use Rattle.reduction.proofs.Numbers.{class_of, Numbering, numbering_none, numbering_skip, numbering_join, numbering_open}
 

@@ -1,5 +1,5 @@
 -- A reduction of a table whose rules are the first of a memory.
-use Rattle.std.proofs.Common.{◌≡◌, ℕ, ◌<◌, ◌≤◌, min, false, List, ◌++◌, map, length, take, drop, filter, sym, ap, ◌∙◌, subst, arith}
+use Rattle.std.proofs.Common.{◌≡◌, ℕ, ◌<◌, ◌≤◌, min, false, List, ◌++◌, map, length, take, drop, filter, sym, ap, ◌∙◌, subst}
 use lib.Seq.{take-append-le}
 use Rattle.trees.proofs.Ranks.{take_capped}
 use Rattle.kinds.specs.Weights.{Weights}

@@ -1,10 +1,9 @@
 -- What the calls of a table promise together: it stays sound, weighs as its book does, and is smallest after a reduction.
-use Rattle.std.proofs.Common.{◌≡◌, ℕ, Bool, true, false, cond, List, [], ◌∷◌, Some, None, Ok, Err, Option, Result, sym, refl, ap, ◌∙◌, subst, ⊎_elim, arith}
-use Rattle.std.proofs.lemmas.Bool.{both_ways, cases_eq, cases_Bool, ne_eqb}
+use Rattle.std.proofs.Common.{◌≡◌, ℕ, cond, List, ◌∷◌, None, Ok, Err, Result, sym, refl, ap, ◌∙◌, subst, ⊎_elim, arith}
+use Rattle.std.proofs.lemmas.Bool.{cases_eq, ne_eqb}
 use Rattle.kinds.specs.Weights.{Weights}
 use Rattle.automata.specs.Automata.{Automaton, Sound}
 use Rattle.automata.specs.Runs.{Alike, Minimal}
-use Rattle.automata.specs.Contexts.{Equivalent}
 use Rattle.automata.specs.Merging.{Grouping, merged}
 use Rattle.automata.specs.Minimality.{ByEquivalence}
 use Rattle.automata.proofs.Alikes.{alike_refl, alike_trans, minimal_alike}
@@ -15,7 +14,7 @@ use Rattle.trees.specs.declared.refusal.Refusal.{Refusal}
 use Rattle.trees.specs.declared.refusal.Refusal.TheVariants.{Accepting}
 use Rattle.trees.specs.Refusals.{Check, checks, first_met, Answers}
 use Rattle.trees.proofs.Refusals.{refused_none, none_met, first_is_met}
-use Rattle.rules.specs.Books.{Book, opened, Opens, accept_checks, accepted, Accepts, add_checks, added}
+use Rattle.rules.specs.Books.{Book, accept_checks, accepted, Accepts, add_checks, added}
 use Rattle.rules.specs.Pushing.{at_state, push_checks, pushed_book}
 use Rattle.rules.proofs.Adds.{fine}
 use Rattle.rules.proofs.Books.{opens_is, accepts_is, sound_opened, sound_accepted, sound_added, sound_pushed}

@@ -1,10 +1,10 @@
 -- What is said of a tree is what it weighs by the book of the table.
-use Rattle.std.proofs.Common.{◌≡◌, ℕ, Bool, true, false, cond, List, Some, None, Ok, Err, Option, Result, sym, refl, ap, ◌∙◌, subst, arith}
+use Rattle.std.proofs.Common.{◌≡◌, ℕ, cond, List, Some, None, Ok, Err, Option, Result, sym, refl, ap, ◌∙◌, subst}
 use Rattle.std.specs.Option.{option_map}
 use Rattle.kinds.specs.Weights.{Weights}
 use Rattle.automata.specs.Trees.{Tree, Over}
 use Rattle.automata.specs.Automata.{Automaton}
-use Rattle.automata.specs.Runs.{At, run, accepted, weight_of}
+use Rattle.automata.specs.Runs.{At, run, accepted}
 use Rattle.trees.specs.declared.refusal.Refusal.{Refusal}
 use Rattle.trees.specs.Refusals.{Test, Answers}
 use Rattle.rules.specs.Books.{Book}

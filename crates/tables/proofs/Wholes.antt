@@ -1,11 +1,11 @@
 -- The answer of a comparison, by the books of the two tables.
-use Rattle.std.proofs.Common.{◌≡◌, ℕ, ◌+◌, ◌<◌, ◌≤◌, true, false, ◌⊎◌, List, [], ◌∷◌, length, get_or, take, Ok, Err, Result, sym, refl, ap, ◌∙◌, subst, ⊎_elim, arith}
+use Rattle.std.proofs.Common.{◌≡◌, ℕ, ◌+◌, ◌<◌, ◌≤◌, true, false, List, length, get_or, take, Ok, Err, Result, sym, refl, ap, ◌∙◌, subst, ⊎_elim, arith}
 use Rattle.std.specs.List.{ContainsAt as Has}
 use Rattle.std.proofs.lemmas.Bool.{cases_Bool}
 use Rattle.kinds.specs.Weights.{Weights}
 use Rattle.automata.specs.Trees.{Tree, Over}
 use Rattle.automata.specs.Automata.{Automaton, same_list}
-use Rattle.automata.specs.Runs.{run, weight_of, Alike}
+use Rattle.automata.specs.Runs.{run, Alike}
 use Rattle.automata.specs.Comparing.{Witness}
 use Rattle.automata.proofs.Finds.{same_list_true, same_list_self}
 use Rattle.automata.proofs.Alikes.{alike_sym, alike_trans}
@@ -13,10 +13,8 @@ use Rattle.trees.specs.declared.node.Node.{Node}
 use Rattle.trees.specs.declared.refusal.Refusal.{Refusal}
 use Rattle.trees.specs.declared.refusal.Refusal.TheVariants.{Alphabets}
 use Rattle.trees.specs.Lists.{blank, children_of, IsTreeList, tree_of}
-use Rattle.trees.specs.Refusals.{FirstMet, Answers}
-use Rattle.rules.specs.declared.weighing.Weighing.{Weighing}
+use Rattle.trees.specs.Refusals.{Answers}
 use Rattle.rules.specs.Books.{Book}
-use Rattle.rules.specs.Weighing.{Weighed, weight_said}
 use Rattle.comparison.specs.declared.comparison.Comparison.{Comparison}
 use Rattle.comparison.specs.declared.comparison.Comparison.TheVariants.{Same, Different}
 use Rattle.comparison.specs.Witnesses.{places_needed}

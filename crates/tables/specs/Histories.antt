@@ -5,7 +5,7 @@ use Rattle.automata.specs.Automata.{Sound}
 use Rattle.automata.specs.Trees.{Tree}
 use Rattle.automata.specs.Runs.{weight_of, Alike, Minimal}
 use Rattle.trees.specs.declared.refusal.Refusal.{Refusal}
-use Rattle.trees.specs.Refusals.{Check, checks, first_met, Answers}
+use Rattle.trees.specs.Refusals.{checks, first_met, Answers}
 use Rattle.rules.specs.Books.{Book, opened, Opens, accept_checks, accepted, Accepts, add_checks, added}
 use Rattle.rules.specs.Pushing.{push_checks, pushed_book}
 use Rattle.rules.specs.Weighing.{weight_said}

@@ -1,7 +1,7 @@
 -- The whole promise over the calls of two tables.
 use Rattle.std.specs.Prelude.{◌≡◌, ℕ, ◌≤◌, List, length, Ok, Result}
 use Rattle.kinds.specs.Weights.{Weights}
-use Rattle.automata.specs.Trees.{Tree, Over}
+use Rattle.automata.specs.Trees.{Tree}
 use Rattle.automata.specs.Runs.{weight_of, Alike}
 use Rattle.trees.specs.declared.node.Node.{Node}
 use Rattle.trees.specs.declared.refusal.Refusal.{Refusal}

@@ -6,47 +6,47 @@ use Rattle.known.specs.Rounds.{chain_opening, second_calls, reduced_calls}
 use Rattle.known.proofs.Questions.{lived_on, asked_refused, weigh_let_in, weighs_32, compared_same, compare_let_in, compare_long}
 use Rattle.known.proofs.rounds.ask.Goals as goal
 
-pub returns-in-err-weighing : goal.returns-in-err-weighing
-returns-in-err-weighing c n m room₁ room₂ l₁ l₂ =
+pub returns-in_err-weighing : goal.returns-in_err-weighing
+returns-in_err-weighing c n m room₁ room₂ l₁ l₂ =
     let work = length c.args.work.now in
-    let red = c.in-ok-states.ensures n room₁ l₁ in
-    let short = weigh_let_in n work c.in-ok-states.states room₁ (closed_holds (λ v. v) c.push-and-reduce.new.table) red.3 c.tree.result (length c.push-and-reduce.new.work) _ c.tree.ensures c.in-err-weighing.ensures.answer.0 in
-    let same = c.push-and-reduce.auto.work in
-    asked_refused (length c.args.list.now) work c.from-residual-in-err-weighing.result c.from-residual-in-err-weighing.ensures.0 (inr (omega arith))
+    let red = c.in_ok-states.ensures n room₁ l₁ in
+    let short = weigh_let_in n work c.in_ok-states.states room₁ (closed_holds (λ v. v) c.push_and_reduce.new.table) red.3 c.tree.result (length c.push_and_reduce.new.work) _ c.tree.ensures c.in_err-weighing.ensures.answer.0 in
+    let same = c.push_and_reduce.auto.work in
+    asked_refused (length c.args.list.now) work c.from_residual-in_err-weighing.result c.from_residual-in_err-weighing.ensures.0 (inr (omega arith))
 
-pub returns-in-err-comparison : goal.returns-in-err-comparison
-returns-in-err-comparison c n m room₁ room₂ l₁ l₂ =
+pub returns-in_err-comparison : goal.returns-in_err-comparison
+returns-in_err-comparison c n m room₁ room₂ l₁ l₂ =
     let work = length c.args.work.now in
-    let answer = c.in-ok-states.states in
-    let red = c.in-ok-states.ensures n room₁ l₁ in
-    let same = c.in-ok-weighing.ensures.same in
+    let answer = c.in_ok-states.states in
+    let red = c.in_ok-states.ensures n room₁ l₁ in
+    let same = c.in_ok-weighing.ensures.same in
     let b = closed_holds (λ v. v) c.weigh.new.self in
-    let lived = lived_on residues (λ v. v) (chain_opening n) (reduced_calls work answer) c.push-and-reduce.new.table c.weigh.new.self same red.3 in
+    let lived = lived_on residues (λ v. v) (chain_opening n) (reduced_calls work answer) c.push_and_reduce.new.table c.weigh.new.self same red.3 in
     let two : b.content.states ≡ 2 = ap states_in same.shape ∙ red.2 in
-    let whole = c.in-err-comparison.ensures.whole (chain_opening n) (chain_opening m) (reduced_calls work answer) second_calls lived l₂ in
+    let whole = c.in_err-comparison.ensures.whole (chain_opening n) (chain_opening m) (reduced_calls work answer) second_calls lived l₂ in
     let short = compare_let_in n work answer room₁ b lived m room₂ (closed_holds (λ v. v) c.args.second.now) l₂ two c.args.list.now c.compare.new.list (length c.weigh.new.work) _ whole in
-    asked_refused (length c.args.list.now) work c.from-residual-in-err-comparison.result c.from-residual-in-err-comparison.ensures.0
-    (subst (λ (k : ℕ). (length c.args.list.now < 18) ⊎ (k < 18)) (c.weigh.auto.work ∙ c.push-and-reduce.auto.work) short)
+    asked_refused (length c.args.list.now) work c.from_residual-in_err-comparison.result c.from_residual-in_err-comparison.ensures.0
+    (subst (λ (k : ℕ). (length c.args.list.now < 18) ⊎ (k < 18)) (c.weigh.auto.work ∙ c.push_and_reduce.auto.work) short)
 
 pub returns : goal.returns
 returns c n m room₁ room₂ l₁ l₂ =
     let work = length c.args.work.now in
-    let answer = c.in-ok-states.states in
-    let red = c.in-ok-states.ensures n room₁ l₁ in
-    let weighed = c.in-ok-weighing.ensures in
+    let answer = c.in_ok-states.states in
+    let red = c.in_ok-states.ensures n room₁ l₁ in
+    let weighed = c.in_ok-weighing.ensures in
     let same = weighed.same in
     let b = closed_holds (λ v. v) c.weigh.new.self in
     let b₂ = closed_holds (λ v. v) c.args.second.now in
-    let lived = lived_on residues (λ v. v) (chain_opening n) (reduced_calls work answer) c.push-and-reduce.new.table c.weigh.new.self same red.3 in
+    let lived = lived_on residues (λ v. v) (chain_opening n) (reduced_calls work answer) c.push_and_reduce.new.table c.weigh.new.self same red.3 in
     let two : b.content.states ≡ 2 = ap states_in same.shape ∙ red.2 in
-    let compared = c.in-ok-comparison.ensures in
+    let compared = c.in_ok-comparison.ensures in
     let whole = compared.whole (chain_opening n) (chain_opening m) (reduced_calls work answer) second_calls lived l₂ in
     let long = compare_long n work answer room₁ b lived m room₂ b₂ l₂ two (length c.args.list.now) (length c.weigh.new.work) compared.answer.0 in (
       long.0,
-      subst (λ (k : ℕ). 18 ≤ k) (c.weigh.auto.work ∙ c.push-and-reduce.auto.work) long.1,
+      subst (λ (k : ℕ). 18 ≤ k) (c.weigh.auto.work ∙ c.push_and_reduce.auto.work) long.1,
       record {
-        weight = weighs_32 n work answer room₁ (closed_holds (λ v. v) c.push-and-reduce.new.table) red.3 c.tree.result c.in-ok-weighing.weighing c.tree.ensures (weighed.booked (chain_opening n) (reduced_calls work answer) red.3);
+        weight = weighs_32 n work answer room₁ (closed_holds (λ v. v) c.push_and_reduce.new.table) red.3 c.tree.result c.in_ok-weighing.weighing c.tree.ensures (weighed.booked (chain_opening n) (reduced_calls work answer) red.3);
         states = red.1;
-        comparison = compared_same n work answer room₁ b lived m room₂ b₂ l₂ c.args.list.now c.compare.new.list (length c.weigh.new.work) c.in-ok-comparison.comparison whole;
+        comparison = compared_same n work answer room₁ b lived m room₂ b₂ l₂ c.args.list.now c.compare.new.list (length c.weigh.new.work) c.in_ok-comparison.comparison whole;
       },
     )

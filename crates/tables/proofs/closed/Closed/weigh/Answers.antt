@@ -10,11 +10,11 @@ use Rattle.tables.proofs.closed.Closed.weigh.Goals as goal
 pub returns : goal.returns
 returns g c =
     record {
-      answer = c.weigh-rules.ensures.answer;
-      same = c.weigh-rules.ensures.same;
+      answer = c.weigh_rules.ensures.answer;
+      same = c.weigh_rules.ensures.same;
       booked = λ o h l.
           booked g.W.Kind.weights g.W.Kind.stands
           (bad_list (ranks_in c.args.self.now.shape) c.args.list.now ∷ when (length c.args.work.now < length c.args.list.now) Short ∷ [])
-          (closed_holds g.W.Kind.stands c.args.self.now) (tree_of (ranks_in c.args.self.now.shape) c.args.list.now) (c.weigh-rules.new.work ≡ c.args.work.now)
-          c.weigh-rules.result o h c.weigh-rules.ensures.answer l;
+          (closed_holds g.W.Kind.stands c.args.self.now) (tree_of (ranks_in c.args.self.now.shape) c.args.list.now) (c.weigh_rules.new.work ≡ c.args.work.now)
+          c.weigh_rules.result o h c.weigh_rules.ensures.answer l;
     }
