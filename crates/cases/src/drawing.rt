@@ -1,6 +1,7 @@
 // Small tables drawn from a number, and variations of them.
 use crate::number_of;
 use kinds::Kind;
+use std::process::Abort;
 use std::test::*;
 use tables::{Closed, Draft};
 
@@ -161,6 +162,7 @@ impl Drawing {
     // Offers the rule of an attempt, at the states and at their copies; a left side that is taken keeps its rule.
     fn offer<W: Kind>(
         &self,
+        rt: &impl Abort,
         draft: &mut Draft<'_, W>,
         attempt: &Attempt,
         codes: &[i64; 4],
@@ -182,31 +184,41 @@ impl Drawing {
                 attempt.symbol.wrapping_sub(1).min(2)
             };
             let number = number_of(draft.add(attempt.symbol, &children[0..rank], target, weight));
-            assert!(number == 0 || number == 6);
+            assert!(rt; number == 0 || number == 6);
         }
         Ok(())
     }
 
     // Enters the accepting states and the rules.
-    pub fn fill<W: Kind>(&self, draft: &mut Draft<'_, W>, codes: &[i64; 4]) -> Result<(), Fail> {
+    pub fn fill<W: Kind>(
+        &self,
+        rt: &impl Abort,
+        draft: &mut Draft<'_, W>,
+        codes: &[i64; 4],
+    ) -> Result<(), Fail> {
         let mut dice = Dice::new(self.seed);
         dice.below(4);
         self.accept(draft, &mut dice)?;
         for number in 0..ATTEMPTS {
             let attempt = draw_attempt(&mut dice, number, self.states);
             if self.variation.omitted != Some(number) {
-                self.offer(draft, &attempt, codes)?;
+                self.offer(rt, draft, &attempt, codes)?;
             }
         }
         Ok(())
     }
 
     // Pushes at every state that is not accepting.
-    pub fn push<W: Kind>(&self, table: &mut Closed<'_, W>, codes: &[i64; 4]) -> Result<(), Fail> {
+    pub fn push<W: Kind>(
+        &self,
+        rt: &impl Abort,
+        table: &mut Closed<'_, W>,
+        codes: &[i64; 4],
+    ) -> Result<(), Fail> {
         for q in 0..self.states() {
             let factor = W::read(codes[self.seed.wrapping_add(q) % 4])?;
             let number = number_of(table.push(q, factor));
-            assert!(number == 0 || number == 9);
+            assert!(rt; number == 0 || number == 9);
         }
         Ok(())
     }

@@ -10,12 +10,16 @@ use std::alloc::{AllocError, Global};
 use tables::Draft;
 use trees::{Node, Refusal};
 
-pub mod drawing;
-pub mod lines;
-pub mod places;
+#[cfg(test)]
+mod drawing;
+#[cfg(test)]
+mod lines;
+#[cfg(test)]
+mod places;
 #[cfg(test)]
 mod tests;
-pub mod witnesses;
+#[cfg(test)]
+mod witnesses;
 
 // What a call of weigh answers, with a weight by its code and a refusal by its number.
 #[derive(Clone, Copy, PartialEq, Eq, Debug)]

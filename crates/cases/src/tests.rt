@@ -1,4 +1,5 @@
 // The tests, by layer.
+mod adding;
 mod alphabets;
 mod comparing;
 mod drafts;
@@ -7,5 +8,4 @@ mod drawn_reductions;
 mod lists;
 mod measures;
 mod reducing;
-mod rules;
 mod weighing;

@@ -8,7 +8,7 @@ use crate::cursor::Cursor;
 use crate::fault::Fault;
 use crate::named::Named;
 use crate::starting::read_kind;
-use crate::tables::answer_tables;
+use crate::table_pair::answer_tables;
 use crate::trouble::Trouble;
 use kinds::{Cost, Kind, Marks, Residue};
 use layout::write_line;

@@ -12,7 +12,7 @@ mod laws;
 mod measuring;
 mod named;
 mod starting;
-mod tables;
+mod table_pair;
 mod trouble;
 mod weights;
 mod writing;

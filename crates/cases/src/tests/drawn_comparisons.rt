@@ -32,6 +32,7 @@ fn varied(seed: usize) -> Variation {
 
 // Pushes at the states of the second table, or reduces it, for some of the seeds.
 fn worked<W: Kind + Clone>(
+    rt: &impl Abort,
     heap: Global,
     seed: usize,
     drawing: &Drawing,
@@ -39,7 +40,7 @@ fn worked<W: Kind + Clone>(
     codes: &[i64; 4],
 ) -> Result<(), Fail> {
     if seed % 5 == 0 || seed % 5 > 2 {
-        drawing.push(table, codes)?;
+        drawing.push(rt, table, codes)?;
     }
     if seed % 5 == 4 {
         let mut work = vec![in heap; Place::blank(); 5]?;
@@ -58,14 +59,14 @@ fn alike<W: Kind + Clone>(
     let drawing = Drawing::new(seed, Variation::none());
     let mut memory = vec![in heap; Rule::blank(); 56]?;
     let mut draft = Draft::<W>::open(&measured(&RANKS, drawing.states())?, memory.as_mut_slice());
-    drawing.fill(&mut draft, codes)?;
+    drawing.fill(rt, &mut draft, codes)?;
     let mut first = draft.close();
     let drawing = Drawing::new(seed, varied(seed));
     let mut more = vec![in heap; Rule::blank(); 56]?;
     let mut draft = Draft::<W>::open(&measured(&RANKS, drawing.states())?, more.as_mut_slice());
-    drawing.fill(&mut draft, codes)?;
+    drawing.fill(rt, &mut draft, codes)?;
     let mut second = draft.close();
-    worked(heap, seed, &drawing, &mut second, codes)?;
+    worked(rt, heap, seed, &drawing, &mut second, codes)?;
     let there = compared(rt, heap, &RANKS, 60, &mut first, &mut second)?;
     let back = compared(rt, heap, &RANKS, 60, &mut second, &mut first)?;
     Ok([there == 0, back == 0])

@@ -27,6 +27,7 @@ fn varied(seed: usize) -> Variation {
 
 // Reduces the table of a seed twice: the numbers of states before, after and at the end.
 fn reduced<W: Kind + Clone>(
+    rt: &impl Abort,
     heap: Global,
     seed: usize,
     codes: &[i64; 4],
@@ -35,10 +36,10 @@ fn reduced<W: Kind + Clone>(
     let measure = measured(&RANKS, drawing.states())?;
     let mut memory = vec![in heap; Rule::blank(); 56]?;
     let mut draft = Draft::<W>::open(&measure, memory.as_mut_slice());
-    drawing.fill(&mut draft, codes)?;
+    drawing.fill(rt, &mut draft, codes)?;
     let mut table = draft.close();
     if seed % 3 > 0 {
-        drawing.push(&mut table, codes)?;
+        drawing.push(rt, &mut table, codes)?;
     }
     let mut work = vec![in heap; Place::blank(); 5]?;
     let (before, after) = table.reduce(work.as_mut_slice())?;
@@ -59,7 +60,7 @@ fn check_all<W: Kind + Clone>(
         let left = digit.wrapping_sub(b'0') as usize;
         let states = Drawing::new(seed, varied(seed)).states();
         assert_eq!(rt;
-            reduced::<W>(heap, seed, codes)?,
+            reduced::<W>(rt, heap, seed, codes)?,
             [states, left, left],
             "seed {seed}"
         );

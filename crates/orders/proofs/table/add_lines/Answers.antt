@@ -6,4 +6,4 @@ returns c = added_all _ _ c.args.lines.now c.loop-line.line-index c.loop-line-te
 
 pub loop-line-preserved : goal.loop-line-preserved
 loop-line-preserved c =
-    added_more _ _ _ c.args.lines.now c.loop-line.line-index _ c.loop-line-test.true c.loop-line.invariant c.in-ok-add-line.ensures
+    added_more _ _ _ c.args.lines.now c.loop-line.line-index _ c.loop-line-test.true c.loop-line.invariant c.in_ok-add_line.ensures

@@ -9,37 +9,37 @@ use Rattle.pages.proofs.Calls.{thrown}
 use Rattle.pages.proofs.Judged.{same_held, told_different}
 use Rattle.pages.proofs.judging.tell_different.Goals as goal
 
-pub returns-in-err-first-code : goal.returns-in-err-first-code
-returns-in-err-first-code g c =
-    thrown (TellsDifferent g.W.Kind.weights (closed_holds g.W.Kind.stands c.args.first.now) (closed_holds g.W.Kind.stands c.args.second.now) c.args.list.now) c.from-residual.result c.in-err-first-code.field-0.0 c.from-residual.ensures.1
-    (λ o h l o' h' l' a. c.in-err-first-code.ensures.answer o h l a.is_list)
+pub returns-in_err-first_code : goal.returns-in_err-first_code
+returns-in_err-first_code g c =
+    thrown (TellsDifferent g.W.Kind.weights (closed_holds g.W.Kind.stands c.args.first.now) (closed_holds g.W.Kind.stands c.args.second.now) c.args.list.now) c.from_residual.result c.in_err-first_code.field-0.0 c.from_residual.ensures.1
+    (λ o h l o' h' l' a. c.in_err-first_code.ensures.answer o h l a.is_list)
 
-pub returns-in-err-second-code : goal.returns-in-err-second-code
-returns-in-err-second-code g c =
-    thrown (TellsDifferent g.W.Kind.weights (closed_holds g.W.Kind.stands c.args.first.now) (closed_holds g.W.Kind.stands c.args.second.now) c.args.list.now) c.from-residual-in-err-second-code.result c.in-err-second-code.field-0.0 c.from-residual-in-err-second-code.ensures.1
-    (λ o h l o' h' l' a. c.in-err-second-code.ensures.answer o' h' l' (subst (λ (rs : List ℕ). IsTreeList rs c.args.list.now) a.one_alphabet a.is_list))
+pub returns-in_err-second_code : goal.returns-in_err-second_code
+returns-in_err-second_code g c =
+    thrown (TellsDifferent g.W.Kind.weights (closed_holds g.W.Kind.stands c.args.first.now) (closed_holds g.W.Kind.stands c.args.second.now) c.args.list.now) c.from_residual-in_err-second_code.result c.in_err-second_code.field-0.0 c.from_residual-in_err-second_code.ensures.1
+    (λ o h l o' h' l' a. c.in_err-second_code.ensures.answer o' h' l' (subst (λ (rs : List ℕ). IsTreeList rs c.args.list.now) a.one_alphabet a.is_list))
 
-pub returns-in-err-first-states : goal.returns-in-err-first-states
-returns-in-err-first-states g c =
+pub returns-in_err-first_states : goal.returns-in_err-first_states
+returns-in_err-first_states g c =
     let K = g.W.Kind.weights in
-    thrown (TellsDifferent K (closed_holds g.W.Kind.stands c.args.first.now) (closed_holds g.W.Kind.stands c.args.second.now) c.args.list.now) c.from-residual-in-err-first-states.result c.in-err-first-states.field-0.0 c.from-residual-in-err-first-states.ensures.1
-    (λ o h l o' h' l' a. c.in-err-first-states.ensures o h (subst (Lived K o h) (sym (same_held g.W.Kind.stands c.args.first.now c.weigh-code.new.table c.in-ok-first-code.ensures.same)) l))
+    thrown (TellsDifferent K (closed_holds g.W.Kind.stands c.args.first.now) (closed_holds g.W.Kind.stands c.args.second.now) c.args.list.now) c.from_residual-in_err-first_states.result c.in_err-first_states.field-0.0 c.from_residual-in_err-first_states.ensures.1
+    (λ o h l o' h' l' a. c.in_err-first_states.ensures o h (subst (Lived K o h) (sym (same_held g.W.Kind.stands c.args.first.now c.weigh_code.new.table c.in_ok-first_code.ensures.same)) l))
 
-pub returns-in-err-second-states : goal.returns-in-err-second-states
-returns-in-err-second-states g c =
+pub returns-in_err-second_states : goal.returns-in_err-second_states
+returns-in_err-second_states g c =
     let K = g.W.Kind.weights in
-    thrown (TellsDifferent K (closed_holds g.W.Kind.stands c.args.first.now) (closed_holds g.W.Kind.stands c.args.second.now) c.args.list.now) c.from-residual-in-err-second-states.result c.in-err-second-states.field-0.0 c.from-residual-in-err-second-states.ensures.1
-    (λ o h l o' h' l' a. c.in-err-second-states.ensures o' h' (subst (Lived K o' h') (sym (same_held g.W.Kind.stands c.args.second.now c.weigh-code-2.new.table c.in-ok-second-code.ensures.same)) l'))
+    thrown (TellsDifferent K (closed_holds g.W.Kind.stands c.args.first.now) (closed_holds g.W.Kind.stands c.args.second.now) c.args.list.now) c.from_residual-in_err-second_states.result c.in_err-second_states.field-0.0 c.from_residual-in_err-second_states.ensures.1
+    (λ o h l o' h' l' a. c.in_err-second_states.ensures o' h' (subst (Lived K o' h') (sym (same_held g.W.Kind.stands c.args.second.now c.weigh_code-2.new.table c.in_ok-second_code.ensures.same)) l'))
 
 pub returns : goal.returns
 returns g c = λ o h l o' h' l' a.
     let K = g.W.Kind.weights in
     let stands = g.W.Kind.stands in
     let list = c.args.list.now in
-    told_different K (book o h) (book o' h') c.in-ok-first-states.first-states c.in-ok-second-states.second-states list (ranks_of c.alphabet-alphabet.result) (vec_items c.in-ok-write-different.field-0) c.in-ok-first-code.first_code c.in-ok-second-code.second-code a
-    (c.in-ok-first-states.ensures o h (subst (Lived K o h) (sym (same_held stands c.args.first.now c.weigh-code.new.table c.in-ok-first-code.ensures.same)) l))
-    (c.in-ok-second-states.ensures o' h' (subst (Lived K o' h') (sym (same_held stands c.args.second.now c.weigh-code-2.new.table c.in-ok-second-code.ensures.same)) l'))
+    told_different K (book o h) (book o' h') c.in_ok-first_states.first_states c.in_ok-second_states.second_states list (ranks_of c.alphabet-alphabet.result) (vec_items c.in_ok-write_different.field-0) c.in_ok-first_code.first_code c.in_ok-second_code.second_code a
+    (c.in_ok-first_states.ensures o h (subst (Lived K o h) (sym (same_held stands c.args.first.now c.weigh_code.new.table c.in_ok-first_code.ensures.same)) l))
+    (c.in_ok-second_states.ensures o' h' (subst (Lived K o' h') (sym (same_held stands c.args.second.now c.weigh_code-2.new.table c.in_ok-second_code.ensures.same)) l'))
     (c.alphabet-alphabet.ensures ∙ sym (faithful K o l).weighs.alphabet)
-    (c.in-ok-first-code.ensures.answer o h l a.is_list)
-    (c.in-ok-second-code.ensures.answer o' h' l' (subst (λ (rs : List ℕ). IsTreeList rs list) a.one_alphabet a.is_list))
-    c.in-ok-write-different.ensures
+    (c.in_ok-first_code.ensures.answer o h l a.is_list)
+    (c.in_ok-second_code.ensures.answer o' h' l' (subst (λ (rs : List ℕ). IsTreeList rs list) a.one_alphabet a.is_list))
+    c.in_ok-write_different.ensures
