@@ -33,7 +33,7 @@ fn tree() -> [Node; 2]
         },
         Node {
             symbol: 1,
-            children: [0; 4],
+            children: [0, 0, 0, 0],
         },
     ]
 }

@@ -27,10 +27,8 @@ impl From<At<KindRefusal>> for Trouble {
     ghost from_gives = { λ at r. r ≡ refused (Kind at.line at.error) };
 
     fn from(at: At<KindRefusal>) -> Trouble {
-        Trouble::Fault(Fault::Kind {
-            line: at.line,
-            refusal: at.error,
-        })
+        let (line, refusal) = (at.line, at.error);
+        Trouble::Fault(Fault::Kind { line, refusal })
     }
 }
 
@@ -38,10 +36,8 @@ impl From<At<Refusal>> for Trouble {
     ghost from_gives = { λ at r. r ≡ refused (Table at.line at.error) };
 
     fn from(at: At<Refusal>) -> Trouble {
-        Trouble::Fault(Fault::Table {
-            line: at.line,
-            refusal: at.error,
-        })
+        let (line, refusal) = (at.line, at.error);
+        Trouble::Fault(Fault::Table { line, refusal })
     }
 }
 

@@ -15,14 +15,14 @@ mapped_none f None e = refl
 mapped_none f (Some x) e = let z : ◌≡◌ {A = ℕ} 0 1 = cc in absurd (omega arith)
 
 module _ {X : Type 0} (p : X → Bool) where
-  first_fails : (x : X) (xs : List X) → position p (x ∷ xs) ≡ None → (p x ≡ false) × (position p xs ≡ None)
+  pub first_fails : (x : X) (xs : List X) → position p (x ∷ xs) ≡ None → (p x ≡ false) × (position p xs ≡ None)
   first_fails x xs e = at (p x) refl e
     where
       at : (b : Bool) → p x ≡ b → cond b (Some 0) (option_map suc (position p xs)) ≡ None → (p x ≡ false) × (position p xs ≡ None)
       at true h k = let z : ◌≡◌ {A = ℕ} 0 1 = cc in absurd (omega arith)
       at false h k = (h, mapped_none suc (position p xs) k)
 
-  past_first : (x : X) (xs : List X) (o : Option ℕ) → p x ≡ false → position p xs ≡ o → position p (x ∷ xs) ≡ option_map suc o
+  pub past_first : (x : X) (xs : List X) (o : Option ℕ) → p x ≡ false → position p xs ≡ o → position p (x ∷ xs) ≡ option_map suc o
   past_first x xs o h e = ap (λ b. cond b (Some 0) (option_map suc (position p xs))) h ∙ ap (option_map suc) e
 
   position_push : (xs : List X) (y : X) → position p xs ≡ None → p y ≡ false → position p (xs ++ y ∷ []) ≡ None

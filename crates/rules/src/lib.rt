@@ -17,7 +17,7 @@ mod weighing;
 
 pub use adding::append;
 pub use left_side::LeftSide;
-pub use lookup::{find, rule_for};
+pub use lookup::{find, is_left, rule_for};
 pub use measure::Measure;
 pub use place::Place;
 pub use pushing::push;

@@ -26,7 +26,7 @@ fn begins_with(places: &[u8; 4], states: &[usize]) -> bool
 }
 
 // Whether the left side is `symbol(children)`.
-fn is_left(left: &LeftSide, symbol: usize, children: &[usize]) -> bool
+pub fn is_left(left: &LeftSide, symbol: usize, children: &[usize]) -> bool
     ensures { result ≡ has_left symbol children.now left.now }
 {
     usize::from(left.symbol) == symbol && begins_with(&left.children, children)

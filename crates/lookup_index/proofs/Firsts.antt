@@ -19,7 +19,7 @@ module _ {X : Type 0} (p : X → Bool) where
   pub none_further : (xs : List X) (k j : ℕ) → position p (take k xs) ≡ None → position p (take j (drop k xs)) ≡ None → position p (take (k + j) xs) ≡ None
   none_further xs k j none more =
       let cut : take k xs ++ take j (drop k xs) ≡ take (k + j) xs =
-            ap₂ (λ ys zs. ys ++ zs) (sym (take-take k (k + j) xs (omega arith))) (sym (drop-take k j xs)) ∙ take-append-drop k (take (k + j) xs) in
+      ap₂ (λ ys zs. ys ++ zs) (sym (take-take k (k + j) xs (omega arith))) (sym (drop-take k j xs)) ∙ take-append-drop k (take (k + j) xs) in
       ap (position p) (sym cut) ∙ none_joined (take k xs) (take j (drop k xs)) none more
 
   pub none_behind : (xs : List X) (k : ℕ) → position p (take k xs) ≡ None → position p (drop k xs) ≡ None → position p xs ≡ None

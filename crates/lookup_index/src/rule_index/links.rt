@@ -1,13 +1,18 @@
 // Reading and writing the links of an index.
 ghost use Rattle.std.specs.Prelude.{◌≡◌, ℕ, ◌+◌, ◌<◌, if◌then◌else◌, nat_eq, slice_index};
 ghost use Rattle.lookup_index.specs.Indexes.{head_of, next_of};
+
 use crate::rule_index::RuleIndex;
 
 // What stands at a place, and 0 past the end.
 fn read(links: &[u16; 1024], place: usize) -> usize
     ensures { result ≡ slice_index links.now place }
 {
-    if place < 1024 { usize::from(links[place]) } else { 0 }
+    if place < 1024 {
+        usize::from(links[place])
+    } else {
+        0
+    }
 }
 
 impl RuleIndex {
@@ -15,7 +20,10 @@ impl RuleIndex {
     pub(crate) fn empty() -> RuleIndex
         ensures { (h : ℕ) → head_of result h ≡ 0 }
     {
-        RuleIndex { heads: [0; 1024], nexts: [0; 1024] }
+        RuleIndex {
+            heads: [0; 1024],
+            nexts: [0; 1024],
+        }
     }
 
     // The link to the first rule of a hash.

@@ -8,34 +8,34 @@ use Rattle.lookup_index.proofs.rule_index.RuleIndex.find.Goals as goal
 pub loop-past-init : goal.loop-past-init
 loop-past-init g c ranks indexed fits =
     let first : head_of c.args.self.now (hash_of c.args.symbol c.args.children.now) ≡ c.head-next.result =
-          ap (head_of c.args.self.now) (sym c.hash.ensures) ∙ sym c.head-next.ensures in
+    ap (head_of c.args.self.now) (sym c.hash.ensures) ∙ sym c.head-next.ensures in
     subst (λ (n : ℕ). Walked ranks c.args.rules.now c.args.symbol c.args.children.now 0 n) first
     (walk_start ranks c.args.self.now c.args.rules.now c.args.symbol c.args.children.now indexed fits)
 
-pub returns-then-is-left : goal.returns-then-is-left
-returns-then-is-left g c = record {
+pub returns-then-is_left : goal.returns-then-is_left
+returns-then-is_left g c = record {
   within = λ i e. let same : c.loop-past.next - 1 ≡ i = cc in omega arith;
   first = λ ranks indexed fits.
-    sym (walk_found ranks c.args.self.now c.args.rules.now c.args.symbol c.args.children.now indexed fits c.loop-past.past c.loop-past.next (c.loop-past.invariant ranks indexed fits) c.loop-past-test.true c.if-next-rules.true c.left-at-left.ensures.0 c.left-at-left.ensures.1
-      (ap (has_left c.args.symbol c.args.children.now) c.left-at-left.ensures.2 ∙ sym c.if-is-left.ensures));
+      sym (walk_found ranks c.args.self.now c.args.rules.now c.args.symbol c.args.children.now indexed fits c.loop-past.past c.loop-past.next (c.loop-past.invariant ranks indexed fits) c.loop-past-test.true c.if-next-rules.true c.left_at-left.ensures.0 c.left_at-left.ensures.1
+      (ap (has_left c.args.symbol c.args.children.now) c.left_at-left.ensures.2 ∙ sym c.if-is_left.ensures));
 }
 
 pub loop-past-preserved : goal.loop-past-preserved
 loop-past-preserved g c ranks indexed fits =
     subst (λ (n : ℕ). Walked ranks c.args.rules.now c.args.symbol c.args.children.now c.loop-past.next n) (sym c.next-next.ensures)
-    (walk_more ranks c.args.self.now c.args.rules.now c.args.symbol c.args.children.now indexed fits c.loop-past.past c.loop-past.next (c.loop-past.invariant ranks indexed fits) c.loop-past-test.true c.if-next-rules.true c.left-at-left.ensures.0 c.left-at-left.ensures.1
-      (ap (has_left c.args.symbol c.args.children.now) c.left-at-left.ensures.2 ∙ sym c.if-is-left.ensures))
+    (walk_more ranks c.args.self.now c.args.rules.now c.args.symbol c.args.children.now indexed fits c.loop-past.past c.loop-past.next (c.loop-past.invariant ranks indexed fits) c.loop-past-test.true c.if-next-rules.true c.left_at-left.ensures.0 c.left_at-left.ensures.1
+    (ap (has_left c.args.symbol c.args.children.now) c.left_at-left.ensures.2 ∙ sym c.if-is_left.ensures))
 
 pub returns-else-next-rules : goal.returns-else-next-rules
 returns-else-next-rules g c = record {
   within = λ i e. let z : ◌≡◌ {A = ℕ} 0 1 = cc in absurd (omega arith);
   first = λ ranks indexed fits.
-    sym (walk_end ranks c.args.self.now c.args.rules.now c.args.symbol c.args.children.now indexed fits c.loop-past.past c.loop-past.next (c.loop-past.invariant ranks indexed fits) (inr c.if-next-rules.false));
+      sym (walk_end ranks c.args.self.now c.args.rules.now c.args.symbol c.args.children.now indexed fits c.loop-past.past c.loop-past.next (c.loop-past.invariant ranks indexed fits) (inr c.if-next-rules.false));
 }
 
 pub returns-after-loop-past : goal.returns-after-loop-past
 returns-after-loop-past g c = record {
   within = λ i e. let z : ◌≡◌ {A = ℕ} 0 1 = cc in absurd (omega arith);
   first = λ ranks indexed fits.
-    sym (walk_end ranks c.args.self.now c.args.rules.now c.args.symbol c.args.children.now indexed fits c.loop-past.past c.loop-past.next (c.loop-past.invariant ranks indexed fits) (inl c.loop-past-test.false));
+      sym (walk_end ranks c.args.self.now c.args.rules.now c.args.symbol c.args.children.now indexed fits c.loop-past.past c.loop-past.next (c.loop-past.invariant ranks indexed fits) (inl c.loop-past-test.false));
 }

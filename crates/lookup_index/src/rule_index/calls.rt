@@ -3,19 +3,16 @@ ghost use Rattle.std.specs.Prelude.{◌≡◌, ℕ, ◌<◌, ◌≤◌, List, ma
 ghost use Rattle.std.specs.Option.{option_map};
 ghost use Rattle.std.specs.List.{slice_get};
 ghost use Rattle.automata.specs.Trees.{rank};
-ghost use Rattle.automata.specs.Automata.{find as find-rule};
+ghost use Rattle.automata.specs.Automata.{find as find_rule};
 ghost use Rattle.rules.specs.Lookup.{has_left, position};
 ghost use Rattle.rules.specs.Shapes.{ranks_in, transition};
 ghost use Rattle.rules.specs.declared.rule.Rule.{Rule as Held};
 ghost use Rattle.lookup_index.specs.Indexes.{Indexes};
-use crate::hashing::hash;
-use crate::hashing::rule_hash;
+
+use crate::hashing::{hash, rule_hash};
 use crate::rule_index::RuleIndex;
 use kinds::Kind;
-use rules::LeftSide;
-use rules::Rule;
-use rules::Shape;
-use rules::is_left;
+use rules::{LeftSide, Rule, Shape, is_left};
 
 // The left side of the rule at a place.
 fn left_at<W>(rules: &[Rule<W>], place: usize) -> LeftSide
@@ -57,8 +54,13 @@ impl RuleIndex {
     }
 
     // The first rule with the left side `symbol(children)`, for as many children as the symbol's rank, by an index of these rules.
-    pub fn rule_for<W: Kind>(&self, rules: &[Rule<W>], symbol: usize, children: &[usize]) -> Option<Rule<W>>
-        ensures { (ranks : List ℕ) → Indexes ranks self.now rules.now → length children.now ≡ rank ranks symbol → option_map (transition W.Kind.stands ranks) result ≡ find-rule (map (transition W.Kind.stands ranks) rules.now) symbol children.now }
+    pub fn rule_for<W: Kind>(
+        &self,
+        rules: &[Rule<W>],
+        symbol: usize,
+        children: &[usize],
+    ) -> Option<Rule<W>>
+        ensures { (ranks : List ℕ) → Indexes ranks self.now rules.now → length children.now ≡ rank ranks symbol → option_map (transition W.Kind.stands ranks) result ≡ find_rule (map (transition W.Kind.stands ranks) rules.now) symbol children.now }
     {
         let place = self.find(rules, symbol, children)?;
         Some(rules[place])

@@ -26,9 +26,9 @@ module _ {V : Type 0} (ranks : List ℕ) (rules : List (Rule V)) where
 
   -- the rule before the rules from k on is put first
   module _ (x x' : RuleIndex) (k : ℕ) (r : Rule V) (low : 0 < k) (here : slice_get rules (k - 1) ≡ Some r)
-    (heads : (h : ℕ) → head_of x' h ≡ cond (eqb h (left_hash ranks r.left)) (k - 1 + 1) (head_of x h))
-    (nexts : (i : ℕ) → next_of x' i ≡ cond (eqb i (k - 1)) (head_of x (left_hash ranks r.left)) (next_of x i))
-    (chained : IndexesFrom ranks x rules k) where
+      (heads : (h : ℕ) → head_of x' h ≡ cond (eqb h (left_hash ranks r.left)) (k - 1 + 1) (head_of x h))
+      (nexts : (i : ℕ) → next_of x' i ≡ cond (eqb i (k - 1)) (head_of x (left_hash ranks r.left)) (next_of x i))
+      (chained : IndexesFrom ranks x rules k) where
     up : k ≡ suc (k - 1)
     up = omega arith
 
@@ -50,12 +50,12 @@ module _ {V : Type 0} (ranks : List ℕ) (rules : List (Rule V)) where
     more_nexts i y l there =
         ⊎_elim
         (λ e.
-          let same : r ≡ y = cc in
-          let after : k ≡ suc i = omega arith in
-          nexts i ∙ ap (λ b. cond b (head_of x (left_hash ranks r.left)) (next_of x i)) (eq-eqb i (k - 1) e)
-          ∙ chained.heads (left_hash ranks r.left) (left_hash_small ranks r.left)
-          ∙ ap (λ n. link n (position (has_hash ranks (left_hash ranks r.left)) (drop n rules))) after
-          ∙ ap (λ (z : Rule V). link (suc i) (position (has_hash ranks (left_hash ranks z.left)) (drop (suc i) rules))) same)
+        let same : r ≡ y = cc in
+        let after : k ≡ suc i = omega arith in
+        nexts i ∙ ap (λ b. cond b (head_of x (left_hash ranks r.left)) (next_of x i)) (eq-eqb i (k - 1) e)
+        ∙ chained.heads (left_hash ranks r.left) (left_hash_small ranks r.left)
+        ∙ ap (λ n. link n (position (has_hash ranks (left_hash ranks r.left)) (drop n rules))) after
+        ∙ ap (λ (z : Rule V). link (suc i) (position (has_hash ranks (left_hash ranks z.left)) (drop (suc i) rules))) same)
         (λ n. nexts i ∙ ap (λ b. cond b (head_of x (left_hash ranks r.left)) (next_of x i)) (ne_eqb i (k - 1) n) ∙ chained.nexts i y (omega arith) there)
         (cases_eq i (k - 1))
 

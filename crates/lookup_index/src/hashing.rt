@@ -2,8 +2,8 @@
 ghost use Rattle.std.specs.Prelude.{◌≡◌};
 ghost use Rattle.lookup_index.specs.Hashing.{mixed, hash_of, left_hash};
 ghost use Rattle.rules.specs.Shapes.{ranks_in};
-use rules::LeftSide;
-use rules::Shape;
+
+use rules::{LeftSide, Shape};
 
 // The hash of a row with one number more.
 fn mix(hash: usize, number: usize) -> usize

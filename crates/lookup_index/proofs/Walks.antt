@@ -34,9 +34,9 @@ module _ {V : Type 0} (ranks : List ℕ) (x : RuleIndex) (rules : List (Rule V))
   hash_agrees r e =
       let both = and_parts (eqb r.left.symbol s) (same_list (take (length qs) r.left.children) qs) e in
       let same : left_hash ranks r.left ≡ hash_of s qs =
-            ap (λ n. hash_of n (take (rank ranks n) r.left.children)) (eqb-true r.left.symbol s both.0)
-            ∙ ap (λ n. hash_of s (take n r.left.children)) (sym fits)
-            ∙ ap (hash_of s) (same_list_true (take (length qs) r.left.children) qs both.1) in
+      ap (λ n. hash_of n (take (rank ranks n) r.left.children)) (eqb-true r.left.symbol s both.0)
+      ∙ ap (λ n. hash_of s (take n r.left.children)) (sym fits)
+      ∙ ap (hash_of s) (same_list_true (take (length qs) r.left.children) qs both.1) in
       eq-eqb (hash_of s qs) (left_hash ranks r.left) (sym same)
 
   pub walk_start : Walked ranks rules s qs 0 (head_of x (hash_of s qs))
@@ -73,8 +73,8 @@ module _ {V : Type 0} (ranks : List ℕ) (x : RuleIndex) (rules : List (Rule V))
       same_hash : left_hash ranks r.left ≡ hash_of s qs
       same_hash =
           let there : slice_get (drop past rules) ahead.0 ≡ Some r =
-                slice_get-get_or (drop past rules) ahead.0 r (position_within hashed (drop past rules) ahead.0 ahead.1.0)
-                ∙ ap Some (get_or-drop past rules ahead.0 r ∙ ap (λ n. get_or rules n r) (sym ahead.1.1) ∙ found.1) in
+          slice_get-get_or (drop past rules) ahead.0 r (position_within hashed (drop past rules) ahead.0 ahead.1.0)
+          ∙ ap Some (get_or-drop past rules ahead.0 r ∙ ap (λ n. get_or rules n r) (sym ahead.1.1) ∙ found.1) in
           sym (eqb-true (hash_of s qs) (left_hash ranks r.left) (first_passes hashed (drop past rules) ahead.0 r ahead.1.0 there))
 
       pub walk_found : has r ≡ true → position has rules ≡ Some (next - 1)
