@@ -124,7 +124,7 @@ fn forty_ranks(rt: HostRuntime) -> Result<(), Fail> {
     let Line::Table { ranks, .. } = line else {
         return Err(Fail::new("no table"));
     };
-    assert!(rt; read_numbers(heap, ranks)?.as_slice() == [4; 40]);
+    assert!(rt; read_numbers(heap, ranks)?.as_slice() == [4usize; 40].as_slice());
     Ok(())
 }
 
@@ -138,7 +138,7 @@ fn written(rt: HostRuntime) -> Result<(), Fail> {
     write_weight(&mut page, 12, None)?;
     assert!(rt;
         page.as_slice()
-            == b"-999999999991234A     0999999\nW     1     1          -7\nW    12     0           0\n"
+            == b"-999999999991234A     0999999\nW     1     1          -7\nW    12     0           0\n".as_slice()
     );
     Ok(())
 }

@@ -1,5 +1,5 @@
 -- The table that a list of lines stands for, and the book that they give.
-use Rattle.std.specs.Prelude.{◌≡◌, ℕ, List, [], ◌∷◌, map, take, ◌==◌}
+use Rattle.std.specs.Prelude.{ℕ, List, [], ◌∷◌, map, take, ◌==◌}
 use Rattle.kinds.specs.declared.cost.Cost.{Cost}
 use Rattle.kinds.specs.Costs.{cost, costs}
 use Rattle.automata.specs.Automata.{Transition, Automaton}

@@ -21,7 +21,7 @@ fn longest_page(rt: HostRuntime) -> Result<(), Fail> {
     let page = long_page(heap)?;
     assert_eq!(rt; page.len(), 65_536);
     let found = answer(heap, &page)?;
-    assert!(rt; found.as_slice() == b"V     0     0     0     0\n");
+    assert!(rt; found.as_slice() == b"V     0     0     0     0\n".as_slice());
     Ok(())
 }
 
@@ -62,7 +62,7 @@ fn most_rules(rt: HostRuntime) -> Result<(), Fail> {
     let mut page = page_with_rules(heap)?;
     page.extend_from_slice(b"E\nT     1     2\nE\n")?;
     let found = answer(heap, &page)?;
-    assert!(rt; found.as_slice() == b"V     0     0     0     0\n");
+    assert!(rt; found.as_slice() == b"V     0     0     0     0\n".as_slice());
     Ok(())
 }
 
@@ -92,7 +92,7 @@ fn most_ranks(rt: HostRuntime) -> Result<(), Fail> {
     write_line(&mut page, b'T', &[4; 33])?;
     page.extend_from_slice(b"E\n")?;
     let found = answer(heap, &page)?;
-    assert!(rt; found.as_slice() == b"V     0     0     0     0\n");
+    assert!(rt; found.as_slice() == b"V     0     0     0     0\n".as_slice());
     Ok(())
 }
 

@@ -27,7 +27,10 @@ fn takes(rt: &impl Abort, heap: Global, kind: &str, field: &str) -> Result<(), F
 
 fn refuses_weight(rt: &impl Abort, heap: Global, kind: &str, field: &str) -> Result<(), Fail> {
     let found = answer_weight(heap, kind, field)?;
-    assert!(rt; found.as_slice() == b"X     4     3     8\n", "{field}");
+    assert!(rt;
+        found.as_slice() == b"X     4     3     8\n".as_slice(),
+        "{field}"
+    );
     Ok(())
 }
 

@@ -1,4 +1,3 @@
-use Rattle.std.proofs.Common.{sym}
 use Rattle.orders.specs.Tables.{state_number}
 use Rattle.orders.specs.declared.state.State.TheVariants.{Text}
 use Rattle.orders.proofs.Fours.{map_four}
