@@ -1,6 +1,6 @@
 -- Dropping states: what is looked up after a filter of the rules, and that a run without the dropped states is a run with them.
 use Rattle.std.proofs.Common.{◌≡◌, ℕ, Bool, true, false, cond, List, [], ◌∷◌, Some, None, filter, Option, sym, refl, ap, ◌∙◌, ap₂, arith}
-use Rattle.std.specs.List.{AllByRecursion as All}
+use Rattle.std.specs.List.{AllByRecursion}
 use Rattle.std.proofs.lemmas.Bool.{and_parts, and_from}
 use Rattle.kinds.specs.Weights.{Weights}
 use Rattle.automata.specs.Trees.{Tree, Row, node, none, ◌▹◌}
@@ -16,11 +16,11 @@ passing p None = None
 passing p (Some r) = cond (p r) (Some r) None
 
 -- membership of all states, as a test and as a statement
-pub all_in_all : (keep : ℕ → Bool) (qs : List ℕ) → all_in keep qs ≡ true → All (λ q. keep q ≡ true) qs
+pub all_in_all : (keep : ℕ → Bool) (qs : List ℕ) → all_in keep qs ≡ true → AllByRecursion (λ q. keep q ≡ true) qs
 all_in_all keep [] e = tt
 all_in_all keep (q ∷ qs) e = let h = and_parts (keep q) (all_in keep qs) e in (h.0, all_in_all keep qs h.1)
 
-pub all_all_in : (keep : ℕ → Bool) (qs : List ℕ) → All (λ q. keep q ≡ true) qs → all_in keep qs ≡ true
+pub all_all_in : (keep : ℕ → Bool) (qs : List ℕ) → AllByRecursion (λ q. keep q ≡ true) qs → all_in keep qs ≡ true
 all_all_in keep [] h = refl
 all_all_in keep (q ∷ qs) h = and_from (keep q) (all_in keep qs) h.0 (all_all_in keep qs h.1)
 
@@ -29,10 +29,10 @@ module _ {W : Type 0} where
   pub kept_target : (keep : ℕ → Bool) (r : Transition W) → keeps keep r ≡ true → keep r.target ≡ true
   kept_target keep r e = (and_parts (keep r.target) (all_in keep r.children) e).0
 
-  pub kept_children : (keep : ℕ → Bool) (r : Transition W) → keeps keep r ≡ true → All (λ q. keep q ≡ true) r.children
+  pub kept_children : (keep : ℕ → Bool) (r : Transition W) → keeps keep r ≡ true → AllByRecursion (λ q. keep q ≡ true) r.children
   kept_children keep r e = all_in_all keep r.children (and_parts (keep r.target) (all_in keep r.children) e).1
 
-  pub kept_from : (keep : ℕ → Bool) (r : Transition W) → keep r.target ≡ true → All (λ q. keep q ≡ true) r.children → keeps keep r ≡ true
+  pub kept_from : (keep : ℕ → Bool) (r : Transition W) → keep r.target ≡ true → AllByRecursion (λ q. keep q ≡ true) r.children → keeps keep r ≡ true
   kept_from keep r t h = and_from (keep r.target) (all_in keep r.children) t (all_all_in keep r.children h)
 
   -- with one rule for each left side, a filter of the rules is a filter of what is found
@@ -66,16 +66,16 @@ module _ {W : Type 0} where
   find_passes p rs s qs r h e k = find_kept p rs s qs h ∙ ap (passing p) e ∙ rw k
 
   -- a filter that all rules pass
-  pub kept_whole : (p : Transition W → Bool) (rs : List (Transition W)) → All (λ r. p r ≡ true) rs → filter p rs ≡ rs
+  pub kept_whole : (p : Transition W → Bool) (rs : List (Transition W)) → AllByRecursion (λ r. p r ≡ true) rs → filter p rs ≡ rs
   kept_whole p [] h = refl
   kept_whole p (r ∷ rs) h = let ih = kept_whole p rs h.1 in rw h.0 (ap (λ x. r ∷ x) ih)
 
   -- what follows from a property of the rules and the test, the kept rules have
-  pub all_kept_with : (p : Transition W → Bool) (P Q : Transition W → Type 0) → ((r : Transition W) → P r → p r ≡ true → Q r) → (rs : List (Transition W)) → All P rs → All Q (filter p rs)
+  pub all_kept_with : (p : Transition W → Bool) (P Q : Transition W → Type 0) → ((r : Transition W) → P r → p r ≡ true → Q r) → (rs : List (Transition W)) → AllByRecursion P rs → AllByRecursion Q (filter p rs)
   all_kept_with p P Q f [] h = tt
   all_kept_with p P Q f (r ∷ rs) h = at (p r) refl (all_kept_with p P Q f rs h.1)
     where
-      at : (b : Bool) → p r ≡ b → All Q (filter p rs) → All Q (cond b (r ∷ filter p rs) (filter p rs))
+      at : (b : Bool) → p r ≡ b → AllByRecursion Q (filter p rs) → AllByRecursion Q (cond b (r ∷ filter p rs) (filter p rs))
       at true e ih = (f r h.0 e, ih)
       at false e ih = ih
 

@@ -1,6 +1,6 @@
 -- Equivalence of states up to a factor is an equivalence relation and a congruence.
 use Rattle.std.proofs.Common.{◌≡◌, ℕ, List, ◌∷◌, ◌++◌, Some, None, Option, sym, refl, ap, ◌∙◌}
-use Rattle.std.specs.List.{AllByRecursion as All}
+use Rattle.std.specs.List.{AllByRecursion}
 use Rattle.kinds.specs.Weights.{Weights}
 use Rattle.automata.specs.Automata.{Transition, Automaton, find, Sound}
 use Rattle.automata.specs.Runs.{applied}
@@ -73,7 +73,7 @@ module _ {W : Type 0} (K : Weights W) (A : Automaton W) where
       ∙ scaled_twice K (K.inverse u) (K.times a v) x
       ∙ ap (λ y. scaled K y x) (forced K w r.weight a r'.weight)
 
-  congruent : Sound A → (s : ℕ) (before after : List ℕ) (a : W) (p q : ℕ) (r : Transition W) → find A.rules s (before ++ p ∷ after) ≡ Some r → All (Live K A) r.children → Live K A r.target → Live K A q → Equivalent K A a p q → Congruent K A a r s (before ++ q ∷ after)
+  congruent : Sound A → (s : ℕ) (before after : List ℕ) (a : W) (p q : ℕ) (r : Transition W) → find A.rules s (before ++ p ∷ after) ≡ Some r → AllByRecursion (Live K A) r.children → Live K A r.target → Live K A q → Equivalent K A a p q → Congruent K A a r s (before ++ q ∷ after)
   congruent sound s before after a p q r e lives target l h =
       let t = accesses K A s before after p r e lives in
       let w : W = around K A before after t.0 t.1 in

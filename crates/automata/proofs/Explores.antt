@@ -1,6 +1,6 @@
 -- Two automata with a complete exploration weigh every tree alike.
 use Rattle.std.proofs.Common.{◌≡◌, ℕ, true, [], ◌∷◌, Some, None, Option, sym, refl, ◌∙◌, subst}
-use Rattle.std.specs.List.{AllByRecursion as All}
+use Rattle.std.specs.List.{AllByRecursion}
 use Rattle.kinds.specs.Weights.{Weights}
 use Rattle.automata.specs.Trees.{Tree, Row, node, none, ◌▹◌, Over, Overs}
 use Rattle.automata.specs.Automata.{Transition, Automaton, find}
@@ -31,7 +31,7 @@ abbrev pub LiveRun : {W : Type 0} → Weights W → Automaton W → Tree → Typ
 LiveRun {W} K A t = (a : At W) × (run K A t ≡ Some a) × Live K A a.state
 
 abbrev pub LiveRuns : {W : Type 0} → Weights W → Automaton W → Row → Type 0
-LiveRuns {W} K A ts = (a : Ats W) × (runs K A ts ≡ Some a) × All (Live K A) a.states
+LiveRuns {W} K A ts = (a : Ats W) × (runs K A ts ≡ Some a) × AllByRecursion (Live K A) a.states
 
 -- from a = c b and d w = c v
 carried : {W : Type 0} (K : Weights W) (a b c d v w : W) → a ≡ K.times c b → K.times d w ≡ K.times c v → K.times a v ≡ K.times d (K.times b w)
@@ -71,13 +71,13 @@ module _ {W : Type 0} (K : Weights W) (A B : Automaton W) (E : Exploration W) (x
         let m = mets ts b.row o.2 b.row_is (children_live K A s ts b.row b.rule o.0 o.1 o.2 b.row_is b.found l'.sign) in
         rw b.reached (met_node s ts b.row b.rule m b.found l')
 
-    mets : (ts : Row) (a : Ats W) → Overs A.ranks ts → runs K A ts ≡ Some a → All (Live K A) a.states → Mets K B E ts a
+    mets : (ts : Row) (a : Ats W) → Overs A.ranks ts → runs K A ts ≡ Some a → AllByRecursion (Live K A) a.states → Mets K B E ts a
     mets none a o e l =
         let empty : a ≡ record { states = []; weight = K.one } = cc in
         rw empty (record { other = record { states = []; weight = K.one }; runs_other = refl; paired = tt; weighs = sym (K.unit K.one) })
     mets (t ▹ ts) a o e l =
         let b = beside_some K (run K A t) (runs K A ts) a e in
-        let l' : All (Live K A) (b.first.state ∷ b.rest.states) = rw b.both at l in
+        let l' : AllByRecursion (Live K A) (b.first.state ∷ b.rest.states) = rw b.both at l in
         rw b.both (met_beside t ts b.first b.rest (met t b.first o.0 b.first_is l'.0) (mets ts b.rest o.1 b.rest_is l'.1))
 
   back_node : (s : ℕ) (ts : Row) (a b : Ats W) (r : Transition W) → runs K A ts ≡ Some a → Mets K B E ts a → runs K B ts ≡ Some b → find B.rules s b.states ≡ Some r → Live K B r.target → LiveRun K A (node s ts)
@@ -98,11 +98,11 @@ module _ {W : Type 0} (K : Weights W) (A B : Automaton W) (E : Exploration W) (x
           let m = mets_back ts c.row o.2 c.row_is (children_live K B s ts c.row c.rule o'.0 o'.1 o'.2 c.row_is c.found l'.sign) in
           back_node s ts m.0 c.row c.rule m.1 (mets ts m.0 o.2 m.1 m.2) c.row_is c.found l'
 
-      mets_back : (ts : Row) (b : Ats W) → Overs A.ranks ts → runs K B ts ≡ Some b → All (Live K B) b.states → LiveRuns K A ts
+      mets_back : (ts : Row) (b : Ats W) → Overs A.ranks ts → runs K B ts ≡ Some b → AllByRecursion (Live K B) b.states → LiveRuns K A ts
       mets_back none b o e l = (record { states = []; weight = K.one }, refl, tt)
       mets_back (t ▹ ts) b o e l =
           let c = beside_some K (run K B t) (runs K B ts) b e in
-          let l' : All (Live K B) (c.first.state ∷ c.rest.states) = rw c.both at l in
+          let l' : AllByRecursion (Live K B) (c.first.state ∷ c.rest.states) = rw c.both at l in
           let m = met_back t c.first o.0 c.first_is l'.0 in
           let n = mets_back ts c.rest o.1 c.rest_is l'.1 in
           (record { states = m.0.state ∷ n.0.states; weight = K.times m.0.weight n.0.weight }, rw (m.1, n.1), (m.2, n.2))

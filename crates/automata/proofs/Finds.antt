@@ -1,6 +1,6 @@
 -- Looking up a rule: what is found has the left side and whatever all rules have.
 use Rattle.std.proofs.Common.{◌≡◌, ℕ, Bool, true, false, cond, eqb, List, [], ◌∷◌, length, Some, sym, refl, ap, ◌∙◌, arith}
-use Rattle.std.specs.List.{AllByRecursion as All}
+use Rattle.std.specs.List.{AllByRecursion}
 use Rattle.std.proofs.lemmas.Bool.{eqb-true, eq-eqb, and_parts, and_from}
 use Rattle.automata.specs.Trees.{rank}
 use Rattle.automata.specs.Automata.{Transition, Automaton, same_list, fits_left, find, Within, Sound}
@@ -49,7 +49,7 @@ module _ {W : Type 0} where
   find_children rs s qs r e = fits_children r s qs (find_fits rs s qs r e)
 
   -- what all rules have, the rule that is found has
-  pub find_all : (P : Transition W → Type 0) (rs : List (Transition W)) (s : ℕ) (qs : List ℕ) (r : Transition W) → All P rs → find rs s qs ≡ Some r → P r
+  pub find_all : (P : Transition W → Type 0) (rs : List (Transition W)) (s : ℕ) (qs : List ℕ) (r : Transition W) → AllByRecursion P rs → find rs s qs ≡ Some r → P r
   find_all P [] s qs r all e = let z : ◌≡◌ {A = ℕ} 0 1 = cc in absurd (omega arith)
   find_all P (x ∷ rs) s qs r all e = at (fits_left x s qs) e (find_all P rs s qs r all.1)
     where

@@ -1,6 +1,6 @@
 -- Looking up a rule among the first ones with each left side, and among changed rules.
 use Rattle.std.proofs.Common.{◌≡◌, ℕ, Bool, true, false, cond, not, List, [], ◌∷◌, map, Some, None, filter, sym, refl, ap, ◌∙◌, ap₂, arith}
-use Rattle.std.specs.List.{AllByRecursion as All}
+use Rattle.std.specs.List.{AllByRecursion}
 use Rattle.std.proofs.ByRecursion.{all_kept_by}
 use Rattle.automata.specs.Automata.{Transition, fits_left, find, Single}
 use Rattle.automata.specs.Merging.{firsts}
@@ -70,7 +70,7 @@ module _ {W : Type 0} where
       let p : Transition W → Bool = λ x. not (fits_left x r.symbol r.children) in
       (find_kept_none p (firsts rs) r.symbol r.children (λ x k. ap not k), single_kept p (firsts rs) (single_firsts rs))
 
-  pub all_firsts : (P : Transition W → Type 0) (rs : List (Transition W)) → All P rs → All P (firsts rs)
+  pub all_firsts : (P : Transition W → Type 0) (rs : List (Transition W)) → AllByRecursion P rs → AllByRecursion P (firsts rs)
   all_firsts P [] h = tt
   all_firsts P (r ∷ rs) h = (h.0, all_kept_by (λ x. not (fits_left x r.symbol r.children)) P (firsts rs) (all_firsts P rs h.1))
 

@@ -1,6 +1,6 @@
 -- The automaton with four states: its contexts, its live states, and its two equivalent states.
 use Rattle.std.proofs.Common.{◌≡◌, ℕ, zero, suc, ◌+◌, ◌<◌, ◌≤◌, true, ◌⊎◌, List, [], ◌∷◌, ◌++◌, Some, None, Option, sym, refl, ap, ◌∙◌, inl, inr, arith}
-use Rattle.std.specs.List.{AllByRecursion as All}
+use Rattle.std.specs.List.{AllByRecursion}
 use Rattle.std.proofs.lemmas.List.{length-append, nil_from_length}
 use Rattle.std.proofs.lemmas.Bool.{ltb-true}
 use Rattle.kinds.specs.declared.residue.Residue.{Residue}
@@ -106,7 +106,7 @@ shape (under s before (under t left d right) after) h =
 abbrev Later : Transition Residue → Type 0
 Later r = r.symbol ≡ 2 → (r.target ≡ 2) ⊎ (r.target ≡ 3)
 
-later : All Later four.rules
+later : AllByRecursion Later four.rules
 later = ((λ e. absurd (omega arith)), ((λ e. absurd (omega arith)), ((λ e. inl refl), ((λ e. inl refl), ((λ e. inr refl), tt)))))
 
 -- the symbol over a run

@@ -1,6 +1,6 @@
 -- What leads to a live state is live: contexts and rules keep states reachable upwards and signs of life downwards.
 use Rattle.std.proofs.Common.{◌≡◌, ℕ, ◌+◌, ◌<◌, true, cond, List, [], length, Some, None, Option, sym, refl, ap, ◌∙◌, ap₂, arith}
-use Rattle.std.specs.List.{AllByRecursion as All}
+use Rattle.std.specs.List.{AllByRecursion}
 use Rattle.std.proofs.ByRecursion.{All-weaker}
 use Rattle.kinds.specs.Weights.{Weights}
 use Rattle.automata.specs.Trees.{Tree, Row, none, ◌▹◌, size, joined, rank, Over, Overs}
@@ -78,7 +78,7 @@ module _ {W : Type 0} (K : Weights W) (A : Automaton W) where
       let u = unscaled a.weight (fill K A d (starting K a.state)) reached (sym (fill_scaled K A a.weight d (starting K a.state)) ∙ ap (fill K A d) (sym (from_start K A a)) ∙ there) in
       sign_fill d a.state u.0 h u.1 (rw u.2 g)
 
-  rest_live : (s : ℕ) (before after : Row) (b c : Ats W) (r : Transition W) → s < length A.ranks → size (joined before after) ≡ rank A.ranks s → Overs A.ranks before → Overs A.ranks after → runs K A after ≡ Some b → runs K A (joined before after) ≡ Some c → find A.rules s c.states ≡ Some r → Sign K A r.target → All (Live K A) b.states
+  rest_live : (s : ℕ) (before after : Row) (b c : Ats W) (r : Transition W) → s < length A.ranks → size (joined before after) ≡ rank A.ranks s → Overs A.ranks before → Overs A.ranks after → runs K A after ≡ Some b → runs K A (joined before after) ≡ Some c → find A.rules s c.states ≡ Some r → Sign K A r.target → AllByRecursion (Live K A) b.states
   rest_live s before none b c r h n o v e k f g = let i : b ≡ record { states = []; weight = K.one } = cc in rw i tt
   rest_live s before (t ▹ ts) b c r h n o v e k f g =
       let p = beside_some K (run K A t) (runs K A ts) b e in
@@ -92,10 +92,10 @@ module _ {W : Type 0} (K : Weights W) (A : Automaton W) where
         sign = place_sign s before ts p.first p.rest c r (h, size_is, o, tt, v.1) p.rest_is split f g;
       } in
       let again = joined_assoc before (t ▹ none) ts in
-      let tail : All (Live K A) p.rest.states =
+      let tail : AllByRecursion (Live K A) p.rest.states =
       rest_live s (joined before (t ▹ none)) ts p.rest c r h (ap size again ∙ n) (over_joined A.ranks before (t ▹ none) o (v.0, tt)) v.1 p.rest_is (ap (runs K A) again ∙ k) f g in
       rw p.both (head, tail)
 
   -- the children of a rule to a state with a sign of life are live, if trees run to them
-  pub children_live : (s : ℕ) (ts : Row) (b : Ats W) (r : Transition W) → s < length A.ranks → size ts ≡ rank A.ranks s → Overs A.ranks ts → runs K A ts ≡ Some b → find A.rules s b.states ≡ Some r → Sign K A r.target → All (Live K A) b.states
+  pub children_live : (s : ℕ) (ts : Row) (b : Ats W) (r : Transition W) → s < length A.ranks → size ts ≡ rank A.ranks s → Overs A.ranks ts → runs K A ts ≡ Some b → find A.rules s b.states ≡ Some r → Sign K A r.target → AllByRecursion (Live K A) b.states
   children_live s ts b r h n v e f g = rest_live s none ts b b r h n tt v e e f g

@@ -1,7 +1,7 @@
 -- Marking, round one: marked states have different signs of life, and live states that stay unmarked have the same.
 use Rattle.std.proofs.Common.{◌≡◌, ℕ, Bool, true, false, List, ◌∷◌, ◌++◌, Some, None, Option, refl, ◌∙◌, arith}
 use mathlib.Core.Bool.{Bool-discrete}
-use Rattle.std.specs.List.{AllByRecursion as All}
+use Rattle.std.specs.List.{AllByRecursion}
 use Rattle.std.proofs.lemmas.Bool.{both_ways}
 use Rattle.std.proofs.ByRecursion.{All-weaker}
 use Rattle.kinds.specs.Weights.{Weights}
@@ -33,10 +33,10 @@ module _ {W : Type 0} (K : Weights W) (A : Automaton W) (live : ℕ → Bool) (d
   pub target_live : (r : Transition W) → keeps live r ≡ true → Live K A r.target
   target_live r h = (decides r.target).0 (kept_target live r h)
 
-  pub children_all_live : (r : Transition W) → keeps live r ≡ true → All (Live K A) r.children
+  pub children_all_live : (r : Transition W) → keeps live r ≡ true → AllByRecursion (Live K A) r.children
   children_all_live r h = All-weaker (λ q. live q ≡ true) (Live K A) (λ q. (decides q).0) r.children (kept_children live r h)
 
-  pub live_keeps : (r : Transition W) → All (Live K A) r.children → Live K A r.target → keeps live r ≡ true
+  pub live_keeps : (r : Transition W) → AllByRecursion (Live K A) r.children → Live K A r.target → keeps live r ≡ true
   live_keeps r h l = kept_from live r ((decides r.target).1 l) (All-weaker (Live K A) (λ q. live q ≡ true) (λ q. (decides q).1) r.children h)
 
   module _ (sound : Sound A) where

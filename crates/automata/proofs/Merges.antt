@@ -1,6 +1,6 @@
 -- Merging: the merged automaton is sound and weighs every tree as the automaton without the states dropped.
 use Rattle.std.proofs.Common.{◌≡◌, ℕ, zero, suc, ◌<◌, Bool, true, false, cond, ◌&&◌, ◌||◌, eqb, ◌⊎◌, map, Some, None, Option, sym, refl, ap, ◌∙◌, ap₂, inl, inr, arith}
-use Rattle.std.specs.List.{AllByRecursion as All}
+use Rattle.std.specs.List.{AllByRecursion}
 use Rattle.std.proofs.lemmas.List.{length-map}
 use Rattle.std.proofs.lemmas.Bool.{eqb-true, cases_eq, and_parts, or_left, or_right}
 use Rattle.std.proofs.ByRecursion.{All-weaker, All-map, kept_by_passes}
@@ -90,10 +90,10 @@ module _ {W : Type 0} (K : Weights W) (A : Automaton W) (G : Grouping W) (sound 
       ∙ classed_applied b.weight (find rules s b.states)
       ∙ ap (λ o. classed G.class (applied K b.weight o)) (sym (find_reweighed K G.factor rules s b.states))
 
-  kept_targets : All (λ r. G.member r.target ≡ true) (dropped G.member A).rules
+  kept_targets : AllByRecursion (λ r. G.member r.target ≡ true) (dropped G.member A).rules
   kept_targets = All-weaker (λ r. keeps G.member r ≡ true) (λ r. G.member r.target ≡ true) (kept_target G.member) (dropped G.member A).rules (kept_by_passes (keeps G.member) A.rules)
 
-  pushed_targets : All (λ r. G.member r.target ≡ true) (members_pushed K G A).rules
+  pushed_targets : AllByRecursion (λ r. G.member r.target ≡ true) (members_pushed K G A).rules
   pushed_targets = All-map (λ r. G.member r.target ≡ true) (reweighed K G.factor) (dropped G.member A).rules kept_targets
 
   -- a run of the merged automaton is the class of the run of the pushed automaton
@@ -134,7 +134,7 @@ module _ {W : Type 0} (K : Weights W) (A : Automaton W) (G : Grouping W) (sound 
   merged_sound =
       let P = Within {W = W} A.ranks G.count in
       let kept = (dropped G.member A).rules in
-      let all : All (λ r. P (relabelled K G r)) kept =
+      let all : AllByRecursion (λ r. P (relabelled K G r)) kept =
       all_kept_with (keeps G.member) (Within A.ranks A.states) (λ r. P (relabelled K G r)) relabelled_within A.rules sound.within in
       record {
         within = all_firsts P (map (relabelled K G) kept) (All-map P (relabelled K G) kept all);

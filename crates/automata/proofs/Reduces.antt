@@ -1,6 +1,6 @@
 -- Merging the classes of equivalent live states gives the smallest automaton that weighs every tree alike.
 use Rattle.std.proofs.Common.{◌≡◌, ℕ, true, List, ◌∷◌, ◌++◌, Some, sym, refl, ap, ◌∙◌}
-use Rattle.std.specs.List.{AllByRecursion as All}
+use Rattle.std.specs.List.{AllByRecursion}
 use Rattle.std.proofs.ByRecursion.{All-weaker}
 use Rattle.kinds.specs.Weights.{Weights}
 use Rattle.automata.specs.Automata.{Transition, Automaton, find, Sound}
@@ -48,7 +48,7 @@ module _ {W : Type 0} (K : Weights W) (A : Automaton W) (G : Grouping W) (sound 
         let m : G.member p ≡ true = (all_after (λ x. G.member x ≡ true) before (p ∷ after) (rw i at members)).0 in
         let a : W = K.times (f p) (K.inverse (f q)) in
         let same : Equivalent K A a p q = h.quotient p q m n c in
-        let lives : All (Live K A) r.children = All-weaker (λ x. G.member x ≡ true) (Live K A) is_live r.children members in
+        let lives : AllByRecursion (Live K A) r.children = All-weaker (λ x. G.member x ≡ true) (Live K A) is_live r.children members in
         let o : Congruent K A a r s (before ++ q ∷ after) =
         (equivalences K A sound).congruent s before after a p q r e lives (is_live r.target target) (is_live q n) same in
         let r' : Transition W = o.other in

@@ -1,17 +1,17 @@
 -- A symbol over rows of trees with a hole between them: the rule that is looked up, and rows of trees that have given states.
 use Rattle.std.proofs.Common.{◌≡◌, ℕ, suc, List, [], ◌∷◌, ◌++◌, length, Some, None, Option, sym, refl, ap, ◌∙◌}
-use Rattle.std.specs.List.{AllByRecursion as All}
+use Rattle.std.specs.List.{AllByRecursion}
 use Rattle.kinds.specs.Weights.{Weights}
 use Rattle.automata.specs.Trees.{Row, none, ◌▹◌, size, Overs}
 use Rattle.automata.specs.Automata.{Automaton, find}
 use Rattle.automata.specs.Runs.{At, Ats, beside, applied, step, run, runs}
 use Rattle.automata.specs.Contexts.{ahead, Reachable}
 
-pub all_before : {X : Type 0} (P : X → Type 0) (xs ys : List X) → All P (xs ++ ys) → All P xs
+pub all_before : {X : Type 0} (P : X → Type 0) (xs ys : List X) → AllByRecursion P (xs ++ ys) → AllByRecursion P xs
 all_before P [] ys h = tt
 all_before P (x ∷ xs) ys h = (h.0, all_before P xs ys h.1)
 
-pub all_after : {X : Type 0} (P : X → Type 0) (xs ys : List X) → All P (xs ++ ys) → All P ys
+pub all_after : {X : Type 0} (P : X → Type 0) (xs ys : List X) → AllByRecursion P (xs ++ ys) → AllByRecursion P ys
 all_after P [] ys h = h
 all_after P (x ∷ xs) ys h = all_after P xs ys h.1
 
@@ -57,7 +57,7 @@ module _ {W : Type 0} (K : Weights W) (A : Automaton W) where
       ∙ ap (λ x. step K A s (both K x (beside K (Some a) (runs K A after)))) e
       ∙ ap (λ x. step K A s (both K (Some b) (beside K (Some a) x))) k
 
-  pub access : (qs : List ℕ) → All (Reachable K A) qs → Access K A qs
+  pub access : (qs : List ℕ) → AllByRecursion (Reachable K A) qs → Access K A qs
   access [] h = record { row = none; over = tt; as_many = refl; weight = K.one; runs_to = refl }
   access (q ∷ qs) h =
       let i : Access K A qs = access qs h.1 in

@@ -1,6 +1,6 @@
 -- States with the same signs of life accept alike, and a rule for one has a counterpart for the other whose target has the same signs.
 use Rattle.std.proofs.Common.{◌≡◌, ℕ, Bool, true, false, cond, ◌↔◌, List, ◌∷◌, ◌++◌, length, Some, None, Option, sym, refl, ap, ◌∙◌, arith}
-use Rattle.std.specs.List.{AllByRecursion as All}
+use Rattle.std.specs.List.{AllByRecursion}
 use Rattle.std.proofs.ByRecursion.{All-weaker}
 use Rattle.std.proofs.lemmas.List.{length-append}
 use Rattle.kinds.specs.Weights.{Weights}
@@ -39,10 +39,10 @@ module _ {W : Type 0} (K : Weights W) (A : Automaton W) where
   value_among c s before after i j p = value_nested K A c (among s before after i j) p ∙ ap (given K A c) (fill_among s before after i j p)
 
   -- the trees beside one child place of a rule whose children are live
-  pub accesses : (s : ℕ) (before after : List ℕ) (p : ℕ) (r : Transition W) → find A.rules s (before ++ p ∷ after) ≡ Some r → All (Live K A) r.children → Access K A before × Access K A after
+  pub accesses : (s : ℕ) (before after : List ℕ) (p : ℕ) (r : Transition W) → find A.rules s (before ++ p ∷ after) ≡ Some r → AllByRecursion (Live K A) r.children → Access K A before × Access K A after
   accesses s before after p r e lives =
-      let all : All (Live K A) (before ++ p ∷ after) = rw (find_children A.rules s (before ++ p ∷ after) r e) at lives in
-      let reach : All (Reachable K A) (before ++ p ∷ after) = All-weaker (Live K A) (Reachable K A) (λ x y. y.reachable) (before ++ p ∷ after) all in
+      let all : AllByRecursion (Live K A) (before ++ p ∷ after) = rw (find_children A.rules s (before ++ p ∷ after) r e) at lives in
+      let reach : AllByRecursion (Reachable K A) (before ++ p ∷ after) = All-weaker (Live K A) (Reachable K A) (λ x y. y.reachable) (before ++ p ∷ after) all in
       (access K A before (all_before (Reachable K A) before (p ∷ after) reach), access K A after (all_after (Reachable K A) before (p ∷ after) reach).1)
 
   module _ (sound : Sound A) (s : ℕ) (before after : List ℕ) (i : Access K A before) (j : Access K A after) (p : ℕ) (r : Transition W) (e : find A.rules s (before ++ p ∷ after) ≡ Some r) where
@@ -109,7 +109,7 @@ module _ {W : Type 0} (K : Weights W) (A : Automaton W) where
       at false true h = let k = h.0 refl in let z : ◌≡◌ {A = ℕ} 0 1 = cc in absurd (omega arith)
       at false false h = refl
 
-  module _ (sound : Sound A) (s : ℕ) (before after : List ℕ) (p q : ℕ) (r : Transition W) (e : find A.rules s (before ++ p ∷ after) ≡ Some r) (lives : All (Live K A) r.children) (same : SameSigns K A p q) where
+  module _ (sound : Sound A) (s : ℕ) (before after : List ℕ) (p q : ℕ) (r : Transition W) (e : find A.rules s (before ++ p ∷ after) ≡ Some r) (lives : AllByRecursion (Live K A) r.children) (same : SameSigns K A p q) where
     -- the counterpart of a rule with live states
     pub signs_rule : Live K A r.target → Live K A q → (r' : Transition W) × (find A.rules s (before ++ q ∷ after) ≡ Some r') × Live K A r'.target
     signs_rule target l =

@@ -1,6 +1,6 @@
 -- A relation between runs that every rule with live states keeps is kept by every context that leads to a live state.
 use Rattle.std.proofs.Common.{◌≡◌, ℕ, true, cond, ◌∷◌, ◌++◌, Some, None, Option, sym, refl, ap, ◌∙◌, subst, arith}
-use Rattle.std.specs.List.{AllByRecursion as All}
+use Rattle.std.specs.List.{AllByRecursion}
 use Rattle.kinds.specs.Weights.{Weights}
 use Rattle.automata.specs.Trees.{Row, ◌▹◌, size, joined, rank}
 use Rattle.automata.specs.Automata.{Transition, Automaton, find}
@@ -49,7 +49,7 @@ module _ {W : Type 0} (K : Weights W) (A : Automaton W) where
 
   -- the children of a rule that a context uses are live, if its target is
   row_live : (s : ℕ) (before after : Row) (c : Context) (p : ℕ) (a : At W) (h : Parts K A s (runs K A before) (fill K A c (starting K p)) (runs K A after) a)
-      → OverContext A.ranks (under s before c after) → Reachable K A p → Live K A h.rule.target → All (Live K A) (h.left.states ++ h.inner.state ∷ h.right.states)
+      → OverContext A.ranks (under s before c after) → Reachable K A p → Live K A h.rule.target → AllByRecursion (Live K A) (h.left.states ++ h.inner.state ∷ h.right.states)
   row_live s before after c p a h over reach live =
       let x : Reachable K A h.inner.state = reachable_fill K A c p h.inner over.3 reach h.inner_is in
       let ts : Row = joined before (x.tree ▹ after) in
@@ -65,7 +65,7 @@ module _ {W : Type 0} (K : Weights W) (A : Automaton W) where
 
   -- every rule whose states are live keeps R: there is a rule for the other run, and the runs that the two make are related
   abbrev pub Kept : (At W → At W → Type 0) → Type 0
-  Kept R = (s : ℕ) (b d : Ats W) (x y : At W) (r : Transition W) → R x y → find A.rules s (b.states ++ x.state ∷ d.states) ≡ Some r → All (Live K A) r.children → Live K A r.target
+  Kept R = (s : ℕ) (b d : Ats W) (x y : At W) (r : Transition W) → R x y → find A.rules s (b.states ++ x.state ∷ d.states) ≡ Some r → AllByRecursion (Live K A) r.children → Live K A r.target
       → (r' : Transition W) × (find A.rules s (b.states ++ y.state ∷ d.states) ≡ Some r') × R (reached K b x d r) (reached K b y d r')
 
   -- there is a run, and a is related to it
@@ -82,10 +82,10 @@ module _ {W : Type 0} (K : Weights W) (A : Automaton W) where
   simulated R kept (under s before c after) p q a over reach h e live =
       let m : Parts K A s (runs K A before) (fill K A c (starting K p)) (runs K A after) a = parts s before after (fill K A c (starting K p)) a e in
       let target : Live K A m.rule.target = rw m.whole at live in
-      let row : All (Live K A) (m.left.states ++ m.inner.state ∷ m.right.states) = row_live s before after c p a m over reach target in
+      let row : AllByRecursion (Live K A) (m.left.states ++ m.inner.state ∷ m.right.states) = row_live s before after c p a m over reach target in
       let inside : Live K A m.inner.state = (all_after (Live K A) m.left.states (m.inner.state ∷ m.right.states) row).0 in
       let n : Answers R m.inner (fill K A c (starting K q)) = simulated R kept c p q m.inner over.3 reach h m.inner_is inside in
-      let children : All (Live K A) m.rule.children = rw (find_children A.rules s (m.left.states ++ m.inner.state ∷ m.right.states) m.rule m.found) row in
+      let children : AllByRecursion (Live K A) m.rule.children = rw (find_children A.rules s (m.left.states ++ m.inner.state ∷ m.right.states) m.rule m.found) row in
       let k = kept s m.left m.right m.inner n.answer m.rule n.related m.found children target in
       record {
         answer = reached K m.left n.answer m.right k.0;

@@ -1,6 +1,6 @@
 -- What a run is made of: the parts of a row's run, the rule that a step used, an accepting state; so a run's state has what all targets have.
 use Rattle.std.proofs.Common.{◌≡◌, ℕ, Bool, true, false, cond, [], ◌∷◌, Some, None, Option, refl, arith}
-use Rattle.std.specs.List.{AllByRecursion as All}
+use Rattle.std.specs.List.{AllByRecursion}
 use Rattle.kinds.specs.Weights.{Weights}
 use Rattle.automata.specs.Trees.{Tree, Row, node, none, ◌▹◌}
 use Rattle.automata.specs.Automata.{Transition, Automaton, find}
@@ -53,13 +53,13 @@ module _ {W : Type 0} (K : Weights W) where
       at (Some r) h k = record { row = b; rule = r; row_is = refl; found = h; reached = cc }
 
   -- what the targets of all rules have, the state of every run has
-  module _ (A : Automaton W) (P : ℕ → Type 0) (all : All (λ r. P r.target) A.rules) where
+  module _ (A : Automaton W) (P : ℕ → Type 0) (all : AllByRecursion (λ r. P r.target) A.rules) where
     pub run_all : (t : Tree) (a : At W) → run K A t ≡ Some a → P a.state
     run_all (node s ts) a e =
         let d = step_some A s (runs K A ts) a e in
         rw d.reached (find_all (λ r. P r.target) A.rules s d.row.states d.rule all d.found)
 
-    pub runs_all : (ts : Row) (b : Ats W) → runs K A ts ≡ Some b → All P b.states
+    pub runs_all : (ts : Row) (b : Ats W) → runs K A ts ≡ Some b → AllByRecursion P b.states
     runs_all none b e = let i : b ≡ record { states = []; weight = K.one } = cc in rw i tt
     runs_all (t ▹ ts) b e =
         let d = beside_some (run K A t) (runs K A ts) b e in

@@ -1,6 +1,6 @@
 -- Swapping all children of a rule for members of the same classes, and the rule found in the merged automaton.
 use Rattle.std.proofs.Common.{◌≡◌, ℕ, true, List, [], ◌∷◌, ◌++◌, map, Some, None, Option, sym, refl, ap, ◌∙◌, ap₂, arith}
-use Rattle.std.specs.List.{AllByRecursion as All}
+use Rattle.std.specs.List.{AllByRecursion}
 use Rattle.std.proofs.lemmas.List.{append_assoc}
 use Rattle.std.proofs.ByRecursion.{All-append}
 use Rattle.kinds.specs.Weights.{Weights}
@@ -14,7 +14,7 @@ use Rattle.automata.proofs.Firsts.{Source, find_firsts, single_kept, find_source
 
 -- all states of the list are members
 abbrev pub Members : {W : Type 0} → Grouping W → List ℕ → Type 0
-Members G qs = All (λ q. G.member q ≡ true) qs
+Members G qs = AllByRecursion (λ q. G.member q ≡ true) qs
 
 module _ {W : Type 0} (K : Weights W) (A : Automaton W) (G : Grouping W) where
   -- a rule whose target and left side are members is kept

@@ -1,6 +1,6 @@
 -- Trimming: without the states that are not live every tree weighs the same.
 use Rattle.std.proofs.Common.{◌≡◌, ℕ, Bool, true, false, cond, ◌∷◌, Some, None, Option, sym, refl, ap, ◌∙◌, ap₂, arith}
-use Rattle.std.specs.List.{AllByRecursion as All}
+use Rattle.std.specs.List.{AllByRecursion}
 use Rattle.std.proofs.ByRecursion.{All-weaker}
 use Rattle.kinds.specs.Weights.{Weights}
 use Rattle.automata.specs.Trees.{Tree, Row, node, none, ◌▹◌, Over, Overs}
@@ -27,18 +27,18 @@ module _ {W : Type 0} (K : Weights W) (A : Automaton W) where
             reachable = record { tree = node s ts; over = o; weight = a.weight; runs_to = e ∙ rw (← i) };
             sign = sign;
           } in
-          let children : All (Live K A) d.row.states = children_live K A s ts d.row r o.0 o.1 o.2 d.row_is d.found sign in
-          let all : All (λ q. keep q ≡ true) d.row.states = All-weaker (Live K A) (λ q. keep q ≡ true) live d.row.states children in
+          let children : AllByRecursion (Live K A) d.row.states = children_live K A s ts d.row r o.0 o.1 o.2 d.row_is d.found sign in
+          let all : AllByRecursion (λ q. keep q ≡ true) d.row.states = All-weaker (Live K A) (λ q. keep q ≡ true) live d.row.states children in
           let kept : keeps keep r ≡ true = kept_from keep r (live r.target target) (rw (find_children A.rules s d.row.states r d.found) all) in
           ap (step K (dropped keep A) s) (runs_stay ts d.row o.2 d.row_is children)
           ∙ ap (applied K d.row.weight) (find_passes (keeps keep) A.rules s d.row.states r sound.single d.found kept)
           ∙ ap (λ x. Some x) (sym d.reached)
 
-      pub runs_stay : (ts : Row) (b : Ats W) → Overs A.ranks ts → runs K A ts ≡ Some b → All (Live K A) b.states → runs K (dropped keep A) ts ≡ Some b
+      pub runs_stay : (ts : Row) (b : Ats W) → Overs A.ranks ts → runs K A ts ≡ Some b → AllByRecursion (Live K A) b.states → runs K (dropped keep A) ts ≡ Some b
       runs_stay none b o e h = e
       runs_stay (t ▹ ts) b o e h =
           let d = beside_some K (run K A t) (runs K A ts) b e in
-          let both : All (Live K A) (d.first.state ∷ d.rest.states) = rw d.both at h in
+          let both : AllByRecursion (Live K A) (d.first.state ∷ d.rest.states) = rw d.both at h in
           ap₂ (beside K) (run_stays t d.first o.0 d.first_is both.0.sign) (runs_stay ts d.rest o.1 d.rest_is both.1)
           ∙ ap (λ x. Some x) (sym d.both)
 

@@ -1,6 +1,6 @@
 -- Bottom-up deterministic weighted tree automata: finite, of any size, with at most one transition for each left side.
 use Rattle.std.specs.Prelude.{◌≡◌, ℕ, ◌<◌, Bool, true, false, cond, ◌&&◌, List, [], ◌∷◌, length, Some, None, Option, ◌==◌}
-use Rattle.std.specs.List.{AllByRecursion as All}
+use Rattle.std.specs.List.{AllByRecursion}
 use Rattle.automata.specs.Trees.{rank}
 
 -- a rule, symbol(children) → target / weight; symbol and children are its left side
@@ -36,7 +36,7 @@ find (r ∷ rs) s qs = cond (fits_left r s qs) (Some r) (find rs s qs)
 pub record Within {W : Type 0} (ranks : List ℕ) (states : ℕ) (r : Transition W) : Type 0 where
   pub symbol_within : r.symbol < length ranks
   pub children_rank : length r.children ≡ rank ranks r.symbol
-  pub children_within : All (λ q. q < states) r.children
+  pub children_within : AllByRecursion (λ q. q < states) r.children
   pub target_within : r.target < states
 
 -- no two rules have one left side
@@ -45,5 +45,5 @@ Single [] = Unit {0}
 Single (r ∷ rs) = (find rs r.symbol r.children ≡ None) × Single rs
 
 pub record Sound {W : Type 0} (A : Automaton W) : Type 0 where
-  pub within : All (Within A.ranks A.states) A.rules
+  pub within : AllByRecursion (Within A.ranks A.states) A.rules
   pub single : Single A.rules

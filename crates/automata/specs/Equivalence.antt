@@ -1,6 +1,6 @@
 -- Equivalence of states up to a factor is an equivalence relation and a congruence.
 use Rattle.std.specs.Prelude.{◌≡◌, ℕ, List, ◌∷◌, ◌++◌, Some}
-use Rattle.std.specs.List.{AllByRecursion as All}
+use Rattle.std.specs.List.{AllByRecursion}
 use Rattle.kinds.specs.Weights.{Weights}
 use Rattle.automata.specs.Automata.{Transition, Automaton, find}
 use Rattle.automata.specs.Contexts.{Live, Equivalent}
@@ -17,4 +17,4 @@ pub record Equivalences {W : Type 0} (K : Weights W) (A : Automaton W) : Type 0 
   pub symmetric : (a : W) (p q : ℕ) → Equivalent K A a p q → Equivalent K A (K.inverse a) q p
   pub transitive : (a b : W) (p q r : ℕ) → Equivalent K A a p q → Equivalent K A b q r → Equivalent K A (K.times a b) p r
   pub unique : (a b : W) (p q : ℕ) → Live K A q → Equivalent K A a p q → Equivalent K A b p q → a ≡ b
-  pub congruent : (s : ℕ) (before after : List ℕ) (a : W) (p q : ℕ) (r : Transition W) → find A.rules s (before ++ p ∷ after) ≡ Some r → All (Live K A) r.children → Live K A r.target → Live K A q → Equivalent K A a p q → Congruent K A a r s (before ++ q ∷ after)
+  pub congruent : (s : ℕ) (before after : List ℕ) (a : W) (p q : ℕ) (r : Transition W) → find A.rules s (before ++ p ∷ after) ≡ Some r → AllByRecursion (Live K A) r.children → Live K A r.target → Live K A q → Equivalent K A a p q → Congruent K A a r s (before ++ q ∷ after)

@@ -1,6 +1,6 @@
 -- Planting access trees, one for each state in the order of their discovery.
 use Rattle.std.proofs.Common.{◌≡◌, ℕ, ◌+◌, ◌<◌, ◌≤◌, ◌⊎◌, List, [], ◌∷◌, ◌++◌, map, length, get_or, take, set, replicate, Some, sym, refl, ap, ◌∙◌, subst, ap₂, ⊎_elim, arith}
-use Rattle.std.specs.List.{ContainsAt as Has, AllByRecursion as All, slice_get}
+use Rattle.std.specs.List.{ContainsAt, AllByRecursion, slice_get}
 use Rattle.std.proofs.ByRecursion.{All-weaker, All-map, has_push_cases}
 use Rattle.std.proofs.lemmas.List.{take_more, take-take, length-set, get_or-set_same, get_or-set_other}
 use Rattle.std.proofs.lemmas.Bool.{cases_eq}
@@ -38,7 +38,7 @@ module _ {W : Type 0} (K : Weights W) (A : Automaton W) (trees : ℕ → Tree) w
   abbrev pub RunsTo : ℕ → Type 0
   RunsTo q = (w : W) × (run K A (trees q) ≡ Some (record { state = q; weight = w }))
 
-  pub runs_by : (qs : List ℕ) → All RunsTo qs → (w : W) × (runs K A (row_by trees qs) ≡ Some (record { states = qs; weight = w }))
+  pub runs_by : (qs : List ℕ) → AllByRecursion RunsTo qs → (w : W) × (runs K A (row_by trees qs) ≡ Some (record { states = qs; weight = w }))
   runs_by [] all = (K.one, refl)
   runs_by (q ∷ qs) all =
       let rest = runs_by qs all.1 in
@@ -65,7 +65,7 @@ pub record Planting {V W : Type 0} (K : Weights W) (stands : V → W) (A B : Aut
   pub forest : Forest K stands A B work (len + i)
   pub same : take len work ≡ take len before
   pub long : length entries ≡ 48
-  pub enters : Enters stands side (Has (take i R.order)) work (len + i) entries
+  pub enters : Enters stands side (ContainsAt (take i R.order)) work (len + i) entries
 
 -- two tables over one alphabet, of which one is meant
 module _ {V W : Type 0} (K : Weights W) (stands : V → W) (first second : Shape) (first_rules second_rules : List (Rule V)) (alphabet : ranks_in first ≡ ranks_in second) (side : Side) where
@@ -92,13 +92,13 @@ module _ {V W : Type 0} (K : Weights W) (stands : V → W) (first second : Shape
           (all_nth (Within S.ranks S.states) S.rules j (transition stands (ranks_in first) r) sound.within (side_rule stands first second first_rules second_rules alphabet side j r read))
 
       -- its node over the entries of its children
-      module _ (P : ℕ → Type 0) (work work' : List (Place V)) (len : ℕ) (entries : List ℕ) (n : Node) (f : Forest K stands A B work len) (e : Enters stands side P work len entries) (all : All P (children_in first r.left)) (over : NodeOver (ranks_in first) r.left.symbol (map (λ q. get_or entries q 0) (children_in first r.left)) n) where
+      module _ (P : ℕ → Type 0) (work work' : List (Place V)) (len : ℕ) (entries : List ℕ) (n : Node) (f : Forest K stands A B work len) (e : Enters stands side P work len entries) (all : AllByRecursion P (children_in first r.left)) (over : NodeOver (ranks_in first) r.left.symbol (map (λ q. get_or entries q 0) (children_in first r.left)) n) where
         pub rule_good : Good (ranks_in first) len n
         rule_good =
             node_good (ranks_in first) r.left.symbol (map (λ q. get_or entries q 0) (children_in first r.left)) n (rank_small first.measure.alphabet r.left.symbol) over len read_within.symbol_within
             (All-map (λ c. c < len) (λ q. get_or entries q 0) (children_in first r.left) (All-weaker P (λ q. get_or entries q 0 < len) e.below (children_in first r.left) all))
 
-        earlier : All (λ c. c < len) (children_of (ranks_in first) n)
+        earlier : AllByRecursion (λ c. c < len) (children_of (ranks_in first) n)
         earlier = children_earlier (ranks_in first) len n (rank_small first.measure.alphabet n.symbol) rule_good
 
         -- runs to its target
@@ -150,15 +150,15 @@ module _ {V W : Type 0} (K : Weights W) (stands : V → W) (first second : Shape
             let f = side_rule stands first second first_rules second_rules alphabet side (get_or R.rule (get_or R.order i 0) 0) r read in
             cc
 
-        children_before : All (Has (take i R.order)) (children_in first r.left)
-        children_before = subst (λ (t : Transition W). All (Has (take i R.order)) t.children) is_rule d.children
+        children_before : AllByRecursion (ContainsAt (take i R.order)) (children_in first r.left)
+        children_before = subst (λ (t : Transition W). AllByRecursion (ContainsAt (take i R.order)) t.children) is_rule d.children
 
         target_is : r.target ≡ get_or R.order i 0
         target_is = ap (λ (t : Transition W). t.target) (sym is_rule) ∙ d.target
 
         module _ (n : Node) (over : NodeOver (ranks_in first) r.left.symbol (map (λ q. get_or entries q 0) (children_in first r.left)) n) where
           pub planting_good : Good (ranks_in first) (len + i) n
-          planting_good = rule_good (get_or R.rule (get_or R.order i 0) 0) r read (Has (take i R.order)) work work (len + i) entries n p.forest p.enters children_before over
+          planting_good = rule_good (get_or R.rule (get_or R.order i 0) 0) r read (ContainsAt (take i R.order)) work work (len + i) entries n p.forest p.enters children_before over
 
           pub planting_more : (work' : List (Place V)) → i < length R.order → get_or R.order i 0 < 48 → Forest K stands A B work' (len + i + 1) → nodes work' (len + i + 1) ≡ nodes work (len + i) ++ n ∷ [] → take (len + i) work' ≡ take (len + i) work → HasEntries work' (set entries (get_or R.order i 0) (len + i)) (i + 1)
           planting_more work' short few f' more older =
@@ -166,16 +166,16 @@ module _ {V W : Type 0} (K : Weights W) (stands : V → W) (first second : Shape
               let up : len + i + 1 ≡ len + (i + 1) = omega arith in
               let long = p.long in
               let here : get_or (set entries q (len + i)) q 0 ≡ len + i = get_or-set_same entries q (len + i) 0 (omega arith) in
-              let still = enters_still work work' (len + i) older stands side (Has (take i R.order)) entries (len + (i + 1)) (omega arith) p.enters in
-              let ran = rule_runs (get_or R.rule q 0) r read (Has (take i R.order)) work work' (len + i) entries n p.forest p.enters children_before over f' more in
+              let still = enters_still work work' (len + i) older stands side (ContainsAt (take i R.order)) entries (len + (i + 1)) (omega arith) p.enters in
+              let ran = rule_runs (get_or R.rule q 0) r read (ContainsAt (take i R.order)) work work' (len + i) entries n p.forest p.enters children_before over f' more in
               record {
                 forest = subst (Forest K stands A B work') up f';
                 same = sym (take-take len (len + i) work' (omega arith)) ∙ ap (take len) older ∙ take-take len (len + i) work (omega arith) ∙ p.same;
                 long = length-set entries q (len + i) ∙ long;
                 enters =
-                    enters_set stands side (Has (take i R.order)) (Has (take (i + 1) R.order)) work' (len + (i + 1)) entries q (len + i) still (omega arith) (omega arith)
+                    enters_set stands side (ContainsAt (take i R.order)) (ContainsAt (take (i + 1) R.order)) work' (len + (i + 1)) entries q (len + i) still (omega arith) (omega arith)
                     (ran.0, ran.1 ∙ ap (λ x. Some (record { state = x; weight = ran.0 })) target_is)
-                    (λ x h. has_push_cases (take i R.order) q x (subst (λ (xs : List ℕ). Has xs x) (take_more R.order i 0 short) h));
+                    (λ x h. has_push_cases (take i R.order) q x (subst (λ (xs : List ℕ). ContainsAt xs x) (take_more R.order i 0 short) h));
               }
 
       pub planting_all : (work : List (Place V)) (entries : List ℕ) (i : ℕ) → i ≤ R.count → R.count ≤ i → HasEntries work entries i → Accessed K stands A B side R before len work (record { entry = entries; len = len + R.count })

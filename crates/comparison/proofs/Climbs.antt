@@ -1,6 +1,6 @@
 -- Climbing from an entry, rule by rule, along the way from its state to an accepting one.
 use Rattle.std.proofs.Common.{◌≡◌, ℕ, zero, suc, ◌+◌, ◌-◌, ◌<◌, ◌≤◌, true, false, List, [], ◌∷◌, ◌++◌, map, length, get_or, take, drop, set, Some, sym, refl, ap, ◌∙◌, subst, ap₂, le_of_suc-le-suc, arith}
-use Rattle.std.specs.List.{AllByRecursion as All, slice_get}
+use Rattle.std.specs.List.{AllByRecursion, slice_get}
 use Rattle.std.proofs.ByRecursion.{All-weaker, All-map, All-set, All-take, All-drop}
 use Rattle.std.proofs.lemmas.List.{take-take, length-take}
 use Rattle.kinds.specs.Weights.{Weights}
@@ -31,7 +31,7 @@ use Rattle.comparison.proofs.OneSide.{side_few, side_rule, side_there}
 use Rattle.comparison.proofs.Accesses.{row_mapped, read_within}
 use Rattle.comparison.proofs.Paths.{Onward, onward, live_place, path_ends, path_goes}
 
-pub row_same : (f g : ℕ → Tree) (qs : List ℕ) → All (λ q. f q ≡ g q) qs → row_by f qs ≡ row_by g qs
+pub row_same : (f g : ℕ → Tree) (qs : List ℕ) → AllByRecursion (λ q. f q ≡ g q) qs → row_by f qs ≡ row_by g qs
 row_same f g [] all = refl
 row_same f g (q ∷ qs) all = ap₂ (λ t r. t ▹ r) all.0 (row_same f g qs all.1)
 
@@ -128,8 +128,8 @@ module _ {V W : Type 0} (K : Weights W) (stands : V → W) (first second : Shape
           let f = side_rule stands first second first_rules second_rules p.alphabet side (get_or L.rule at 0) r read in
           cc
 
-      all_reached : All (Flagged R.reached) qs
-      all_reached = subst (λ (t : Transition W). All (Flagged R.reached) t.children) is_rule o.reached
+      all_reached : AllByRecursion (Flagged R.reached) qs
+      all_reached = subst (λ (t : Transition W). AllByRecursion (Flagged R.reached) t.children) is_rule o.reached
 
       low : k < length qs
       low = subst (λ (t : Transition W). k < length t.children) is_rule (nth_some o.rule.children k at 0 o.child).0
@@ -159,7 +159,7 @@ module _ {V W : Type 0} (K : Weights W) (stands : V → W) (first second : Shape
         tree_more work' more =
             let ts : List Tree = trees_of (ranks_in first) (nodes work end) in
             let now_trees : ℕ → Tree = access_trees (ranks_in first) work end access in
-            let still : All (λ s. now_trees s ≡ trees s) qs =
+            let still : AllByRecursion (λ s. now_trees s ≡ trees s) qs =
             All-weaker (Flagged R.reached) (λ s. now_trees s ≡ trees s) (λ s f. older_tree before work len c.same (ranks_in first) end c.longer c.forest.room (get_or access.entry s 0) (q.enters.below s f)) qs all_reached in
             newest_tree (ranks_in first) work work' end n c.forest.room more (children_earlier (ranks_in first) end n (rank_small first.measure.alphabet n.symbol) good)
             ∙ ap₂ (λ s cs. node s (row_of ts cs)) over_top.symbol over_top.children

@@ -1,6 +1,6 @@
 -- Marking the entries that a tree uses, from its top downwards.
 use Rattle.std.proofs.Common.{◌≡◌, ℕ, ◌+◌, ◌<◌, ◌⊎◌, List, [], ◌∷◌, ◌++◌, length, get_or, take, set, sym, refl, ap, ◌∙◌, subst, inl, inr, ⊎_elim, arith}
-use Rattle.std.specs.List.{ContainsAt as Has, AllByRecursion as All}
+use Rattle.std.specs.List.{ContainsAt, AllByRecursion}
 use Rattle.std.proofs.lemmas.List.{get_or-set_same, get_or-set_other, get_or_past, length-set, take_more}
 use Rattle.std.proofs.ByRecursion.{All-weaker, all-has, has_append_right}
 use Rattle.std.proofs.lemmas.Bool.{cases_lt, cases_eq}
@@ -27,17 +27,17 @@ pub marked_keeps : (cs m : List ℕ) (i : ℕ) → 0 < get_or m i 0 → 0 < get_
 marked_keeps [] m i h = h
 marked_keeps (c ∷ cs) m i h = marked_keeps cs (set m c 1) i (keeps_one m c i h)
 
-pub marked_all : (cs m : List ℕ) → All (λ c. c < length m) cs → All (λ c. 0 < get_or (marked_at m cs) c 0) cs
+pub marked_all : (cs m : List ℕ) → AllByRecursion (λ c. c < length m) cs → AllByRecursion (λ c. 0 < get_or (marked_at m cs) c 0) cs
 marked_all [] m all = tt
 marked_all (c ∷ cs) m all = (
   marked_keeps cs (set m c 1) c (omega (arith, get_or-set_same m c 1 0 all.0)),
-  marked_all cs (set m c 1) (subst (λ n. All (λ d. d < n) cs) (sym (length-set m c 1)) all.1),
+  marked_all cs (set m c 1) (subst (λ n. AllByRecursion (λ d. d < n) cs) (sym (length-set m c 1)) all.1),
 )
 
-has_first : (c : ℕ) (cs : List ℕ) (i : ℕ) → i ≡ c → Has (c ∷ cs) i
+has_first : (c : ℕ) (cs : List ℕ) (i : ℕ) → i ≡ c → ContainsAt (c ∷ cs) i
 has_first c cs i e = (0, omega arith, λ d. sym e)
 
-pub marked_only : (cs m : List ℕ) (i : ℕ) → 0 < get_or (marked_at m cs) i 0 → (0 < get_or m i 0) ⊎ Has cs i
+pub marked_only : (cs m : List ℕ) (i : ℕ) → 0 < get_or (marked_at m cs) i 0 → (0 < get_or m i 0) ⊎ ContainsAt cs i
 marked_only [] m i h = inl h
 marked_only (c ∷ cs) m i h =
     ⊎_elim (λ l. ⊎_elim (λ k. inl k) (λ e. inr (has_first c cs i e)) (marked_one m c i l)) (λ k. inr (has_append_right (c ∷ []) cs i k)) (marked_only cs (set m c 1) i h)
@@ -73,7 +73,7 @@ module _ (ranks : List ℕ) (ns : List Node) (top : ℕ) where
   }
 
   -- an entry that is marked, and then its children
-  pub marking_more : (m : List ℕ) (e : ℕ) → e < top + 1 → top < length m → 0 < get_or m e 0 → All (λ c. c < e) (children_of ranks (get_or ns e blank)) → Marking ranks ns top m (e + 1) → Marking ranks ns top (marked_at m (children_of ranks (get_or ns e blank))) e
+  pub marking_more : (m : List ℕ) (e : ℕ) → e < top + 1 → top < length m → 0 < get_or m e 0 → AllByRecursion (λ c. c < e) (children_of ranks (get_or ns e blank)) → Marking ranks ns top m (e + 1) → Marking ranks ns top (marked_at m (children_of ranks (get_or ns e blank))) e
   marking_more m e within long h earlier M =
       let cs = children_of ranks (get_or ns e blank) in
       record {
@@ -82,7 +82,7 @@ module _ (ranks : List ℕ) (ns : List Node) (top : ℕ) where
             (λ old. let w = M.needed i l old in (w.0, w.1, w.2, marked_keeps cs m w.0 w.3, w.4))
             (λ has. (e, all-has (λ c. c < e) cs i earlier has, within, marked_keeps cs m e h, has)) (marked_only cs m i k);
         closed = λ j l k g. ⊎_elim
-            (λ s. subst (λ (i : ℕ). All (λ c. 0 < get_or (marked_at m cs) c 0) (children_of ranks (get_or ns i blank))) (sym s) (marked_all cs m (All-weaker (λ c. c < e) (λ c. c < length m) (λ c b. omega arith) cs earlier)))
+            (λ s. subst (λ (i : ℕ). AllByRecursion (λ c. 0 < get_or (marked_at m cs) c 0) (children_of ranks (get_or ns i blank))) (sym s) (marked_all cs m (All-weaker (λ c. c < e) (λ c. c < length m) (λ c b. omega arith) cs earlier)))
             (λ n. ⊎_elim
             (λ old. All-weaker (λ c. 0 < get_or m c 0) (λ c. 0 < get_or (marked_at m cs) c 0) (λ c. marked_keeps cs m c) (children_of ranks (get_or ns j blank)) (M.closed j (omega arith) k old))
             (λ has. absurd (omega (arith, all-has (λ c. c < e) cs j earlier has))) (marked_only cs m j g)) (cases_eq j e);

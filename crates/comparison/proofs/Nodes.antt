@@ -1,7 +1,7 @@
 -- Nodes over entries: the node of a left side over the entries of its states, and the node with another child.
 use Rattle.std.proofs.Common.{◌≡◌, ℕ, ◌+◌, ◌<◌, ◌≤◌, List, map, length, get_or, take, set, replicate, sym, refl, ap, ◌∙◌, subst, ⊎_elim, arith}
 use lib.Seq.{take-set-lt}
-use Rattle.std.specs.List.{AllByRecursion as All}
+use Rattle.std.specs.List.{AllByRecursion}
 use Rattle.std.proofs.ByRecursion.{All-get_or}
 use Rattle.std.proofs.lemmas.List.{same_lists, length-take-le, length-map, length-set, get_or-take, get_or-map, get_or_default, get_or-set_same, get_or-set_other}
 use Rattle.std.proofs.lemmas.Bool.{cases_eq}
@@ -56,7 +56,7 @@ module _ (ranks : List ℕ) (s : ℕ) (cs : List ℕ) (n : Node) (small : rank r
   node_many = ap length (sym over.children) ∙ length-take-le (rank ranks n.symbol) n.children (omega (arith, over.four, ap (rank ranks) over.symbol)) ∙ ap (rank ranks) over.symbol
 
   -- a node over entries below i is a good entry with the number i
-  pub node_good : (i : ℕ) → s < length ranks → All (λ c. c < i) cs → Good ranks i n
+  pub node_good : (i : ℕ) → s < length ranks → AllByRecursion (λ c. c < i) cs → Good ranks i n
   node_good i within all =
       let same : rank ranks n.symbol ≡ rank ranks s = ap (rank ranks) over.symbol in
       record {

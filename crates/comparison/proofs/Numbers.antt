@@ -1,6 +1,6 @@
 -- Numbering the marked entries in order, each written with its children by their new numbers.
 use Rattle.std.proofs.Common.{◌≡◌, ℕ, ◌+◌, ◌-◌, ◌<◌, ◌≤◌, ◌≢◌, List, [], ◌∷◌, ◌++◌, map, length, get_or, take, drop, set, sym, refl, ap, ◌∙◌, subst, ⊎_elim, arith}
-use Rattle.std.specs.List.{AllByRecursion as All}
+use Rattle.std.specs.List.{AllByRecursion}
 use Rattle.std.proofs.lemmas.List.{get_or-set_same, get_or-set_other, drop-drop, take_more_set, map_more, length-take-le}
 use Rattle.std.proofs.ByRecursion.{All-weaker}
 use Rattle.std.proofs.lemmas.Bool.{cases_eq}
@@ -18,7 +18,7 @@ drop_later xs ys i j h e =
     ap (λ n. drop n xs) (sym up) ∙ sym (drop-drop (j - i) i xs) ∙ ap (drop (j - i)) e ∙ drop-drop (j - i) i ys ∙ ap (λ n. drop n ys) up
 
 -- a mark at e does not change how an entry is written whose children stand before e
-renumbered_kept : (ranks m : List ℕ) (e v : ℕ) (n r : Node) → All (λ c. c < e) (children_of ranks n) → Renumbered ranks m n r → Renumbered ranks (set m e v) n r
+renumbered_kept : (ranks m : List ℕ) (e v : ℕ) (n r : Node) → AllByRecursion (λ c. c < e) (children_of ranks n) → Renumbered ranks m n r → Renumbered ranks (set m e v) n r
 renumbered_kept ranks m e v n r earlier R = record {
   four = R.four;
   same_symbol = R.same_symbol;
@@ -59,7 +59,7 @@ module _ (ranks : List ℕ) (ns : List Node) (top : ℕ) where
   }
 
   -- a marked entry gets the next number
-  module _ (m : List ℕ) (list : List Node) (e k : ℕ) (r : Node) (marked : 0 < get_or m e 0) (long : k < length list) (earlier : (j : ℕ) → j < e + 1 → All (λ c. c < j) (children_of ranks (get_or ns j blank))) (R : Renumbered ranks m (get_or ns e blank) r) (N : Numbering ranks ns top m list e k) where
+  module _ (m : List ℕ) (list : List Node) (e k : ℕ) (r : Node) (marked : 0 < get_or m e 0) (long : k < length list) (earlier : (j : ℕ) → j < e + 1 → AllByRecursion (λ c. c < j) (children_of ranks (get_or ns j blank))) (R : Renumbered ranks m (get_or ns e blank) r) (N : Numbering ranks ns top m list e k) where
     abbrev m' : List ℕ
     m' = set m e (k + 1)
 

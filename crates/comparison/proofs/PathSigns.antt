@@ -1,6 +1,6 @@
 -- The way from a live state to an accepting one is a sign of life, where every state that is reached has a tree that runs to it.
 use Rattle.std.proofs.Common.{◌≡◌, ℕ, zero, suc, ◌+◌, ◌<◌, ◌≤◌, Bool, true, false, List, [], ◌∷◌, ◌++◌, length, get_or, take, drop, Some, sym, refl, ap, ◌∙◌, subst, arith}
-use Rattle.std.specs.List.{AllByRecursion as All, slice_get}
+use Rattle.std.specs.List.{AllByRecursion, slice_get}
 use Rattle.std.proofs.ByRecursion.{All-weaker, All-take, All-drop}
 use Rattle.std.proofs.lemmas.List.{length-take, length-drop}
 use Rattle.kinds.specs.Weights.{Weights}
@@ -23,7 +23,7 @@ size_by : (trees : ℕ → Tree) (qs : List ℕ) → size (row_by trees qs) ≡ 
 size_by trees [] = refl
 size_by trees (q ∷ qs) = ap suc (size_by trees qs)
 
-overs_by : (ranks : List ℕ) (trees : ℕ → Tree) (qs : List ℕ) → All (λ q. Over ranks (trees q)) qs → Overs ranks (row_by trees qs)
+overs_by : (ranks : List ℕ) (trees : ℕ → Tree) (qs : List ℕ) → AllByRecursion (λ q. Over ranks (trees q)) qs → Overs ranks (row_by trees qs)
 overs_by ranks trees [] all = tt
 overs_by ranks trees (q ∷ qs) all = (all.0, overs_by ranks trees qs all.1)
 
@@ -48,14 +48,14 @@ module _ {W : Type 0} (K : Weights W) (A : Automaton W) (sound : Sound A) (R : R
     over_more : (c : Context) → OverContext A.ranks c → OverContext A.ranks (within_rule trees o.rule k c)
     over_more c h =
         let within = all_nth (Within A.ranks A.states) A.rules (get_or L.rule x 0) o.rule sound.within o.there in
-        let all : All (λ q. Over A.ranks (trees q)) qs = All-weaker (Flagged R.reached) (λ q. Over A.ranks (trees q)) over qs o.reached in
+        let all : AllByRecursion (λ q. Over A.ranks (trees q)) qs = All-weaker (Flagged R.reached) (λ q. Over A.ranks (trees q)) over qs o.reached in
         let many : size (row_by trees (take k qs)) + 1 + size (row_by trees (drop (suc k) qs)) ≡ rank A.ranks o.rule.symbol =
         omega (arith, size_by trees (take k qs), size_by trees (drop (suc k) qs), length-take k qs, length-drop (suc k) qs, low, within.children_rank) in
         (within.symbol_within, many, overs_by A.ranks trees (take k qs) (All-take (λ q. Over A.ranks (trees q)) k qs all), h, overs_by A.ranks trees (drop (suc k) qs) (All-drop (λ q. Over A.ranks (trees q)) (suc k) qs all))
 
     fill_more : (c : Context) (x₀ : ℕ) (a : At W) → fill K A c (starting K x₀) ≡ Some a → a.state ≡ x → (b : At W) × (fill K A (within_rule trees o.rule k c) (starting K x₀) ≡ Some b) × (b.state ≡ o.rule.target)
     fill_more c x₀ a e s =
-        let all : All (RunsTo K A trees) qs = All-weaker (Flagged R.reached) (RunsTo K A trees) ran qs o.reached in
+        let all : AllByRecursion (RunsTo K A trees) qs = All-weaker (Flagged R.reached) (RunsTo K A trees) ran qs o.reached in
         let before = runs_by K A trees (take k qs) (All-take (RunsTo K A trees) k qs all) in
         let after = runs_by K A trees (drop (suc k) qs) (All-drop (RunsTo K A trees) (suc k) qs all) in
         let b : Ats W = record { states = take k qs; weight = before.0 } in

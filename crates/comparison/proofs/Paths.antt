@@ -1,6 +1,6 @@
 -- The way from a live state to an accepting one, step by step.
 use Rattle.std.proofs.Common.{◌≡◌, ℕ, zero, suc, ◌<◌, true, false, ◌⊎◌, get_or, take, Some, refl, subst, inl, inr}
-use Rattle.std.specs.List.{AllByRecursion as All, slice_get}
+use Rattle.std.specs.List.{AllByRecursion, slice_get}
 use Rattle.std.proofs.lemmas.Bool.{both_ways}
 use Rattle.automata.specs.Trees.{Tree}
 use Rattle.automata.specs.Automata.{Transition, Automaton}
@@ -16,7 +16,7 @@ use Rattle.comparison.specs.Climbing.{within_rule, path_over}
 pub record Onward {W : Type 0} (A : Automaton W) (R : Reach) (L : Life) (i x : ℕ) : Type 0 where
   pub rule : Transition W
   pub there : slice_get A.rules (get_or L.rule x 0) ≡ Some rule
-  pub reached : All (Flagged R.reached) rule.children
+  pub reached : AllByRecursion (Flagged R.reached) rule.children
   pub child : slice_get rule.children (get_or L.place x 0) ≡ Some x
   pub next : ℕ
   pub earlier : next < i

@@ -1,6 +1,6 @@
 -- An entry more: the older trees stay, the new tree is its symbol over the trees of its children, and the runs are theirs.
 use Rattle.std.proofs.Common.{◌≡◌, ℕ, ◌+◌, ◌<◌, ◌≤◌, List, [], ◌∷◌, ◌++◌, map, length, get_or, take, set, Some, sym, refl, ap, ◌∙◌, subst, ⊎_elim, arith}
-use Rattle.std.specs.List.{AllByRecursion as All}
+use Rattle.std.specs.List.{AllByRecursion}
 use Rattle.std.proofs.lemmas.List.{take_at, take_more_set, map_push, length-map, length-take-le, length_push, length-set, get_or_push, get_or_append_left}
 use Rattle.std.proofs.lemmas.Bool.{cases_lt}
 use Rattle.kinds.specs.Weights.{Weights}
@@ -25,10 +25,10 @@ module _ (ranks : List ℕ) (ns : List Node) (n : Node) where
       trees_front ranks (ns ++ n ∷ []) (length ns) i (node 0 none) (omega (arith, length_push ns n)) h
       ∙ ap (λ ms. tree_at ranks ms i) (take_at ns (n ∷ []) (length ns) refl)
 
-  pub tree_newest : (i : ℕ) → length ns ≡ i → All (λ c. c < i) (children_of ranks n) → tree_at ranks (ns ++ n ∷ []) i ≡ node n.symbol (row_of (trees_of ranks ns) (children_of ranks n))
+  pub tree_newest : (i : ℕ) → length ns ≡ i → AllByRecursion (λ c. c < i) (children_of ranks n) → tree_at ranks (ns ++ n ∷ []) i ≡ node n.symbol (row_of (trees_of ranks ns) (children_of ranks n))
   tree_newest i e earlier =
       let here : get_or (ns ++ n ∷ []) i blank ≡ n = get_or_push ns n blank i e in
-      tree_entry ranks (ns ++ n ∷ []) i (omega (arith, length_push ns n)) (subst (λ (m : Node). All (λ c. c < i) (children_of ranks m)) (sym here) earlier)
+      tree_entry ranks (ns ++ n ∷ []) i (omega (arith, length_push ns n)) (subst (λ (m : Node). AllByRecursion (λ c. c < i) (children_of ranks m)) (sym here) earlier)
       ∙ ap (λ (m : Node). node m.symbol (row_of (trees_of ranks (ns ++ n ∷ [])) (children_of ranks m))) here
       ∙ ap (node n.symbol) (row_front ranks (trees_of ranks (ns ++ n ∷ [])) (trees_of ranks ns) i (children_of ranks n) (λ k l. tree_older k (omega arith)) earlier)
 
@@ -77,5 +77,5 @@ module _ {V : Type 0} (ranks : List ℕ) (work work' : List (Place V)) (len : �
   pub older_tree : (i : ℕ) → i < len → tree_in ranks work' (len + 1) i ≡ tree_in ranks work len i
   older_tree i h = ap (λ ms. tree_at ranks ms i) more ∙ tree_older ranks (nodes work len) n i (omega (arith, length_nodes work len room))
 
-  pub newest_tree : All (λ c. c < len) (children_of ranks n) → tree_in ranks work' (len + 1) len ≡ node n.symbol (row_of (trees_of ranks (nodes work len)) (children_of ranks n))
+  pub newest_tree : AllByRecursion (λ c. c < len) (children_of ranks n) → tree_in ranks work' (len + 1) len ≡ node n.symbol (row_of (trees_of ranks (nodes work len)) (children_of ranks n))
   newest_tree earlier = ap (λ ms. tree_at ranks ms len) more ∙ tree_newest ranks (nodes work len) n len (length_nodes work len room) earlier

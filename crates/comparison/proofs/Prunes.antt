@@ -1,6 +1,6 @@
 -- The list of the numbered entries: a tree list of the same tree, each entry but the last a child of a later one.
 use Rattle.std.proofs.Common.{◌≡◌, ℕ, zero, suc, ◌+◌, ◌-◌, ◌<◌, ◌≤◌, List, [], ◌∷◌, map, length, get_or, take, drop, sym, refl, ap, ◌∙◌, subst, ⊎_elim, arith}
-use Rattle.std.specs.List.{ContainsAt as Has, AllByRecursion as All}
+use Rattle.std.specs.List.{ContainsAt, AllByRecursion}
 use Rattle.std.proofs.lemmas.List.{length-map, length-take-le, get_or-take, get_or-map}
 use Rattle.std.proofs.ByRecursion.{All-get_or, All-from_get_or}
 use Rattle.std.proofs.lemmas.Bool.{cases_eq}
@@ -15,10 +15,10 @@ use Rattle.comparison.specs.Writing.{Written}
 use Rattle.comparison.proofs.Kept.{kept_nodes}
 use Rattle.comparison.proofs.Plants.{length_nodes}
 
-has_map : {X Y : Type 0} (f : X → Y) (xs : List X) (x : X) → Has xs x → Has (map f xs) (f x)
+has_map : {X Y : Type 0} (f : X → Y) (xs : List X) (x : X) → ContainsAt xs x → ContainsAt (map f xs) (f x)
 has_map f xs x (i, h, same) = (i, omega (arith, length-map xs f), λ d. get_or-map f xs i x d h ∙ ap f (same x))
 
-row_renumbered : (ts us : List Tree) (f : ℕ → ℕ) (cs : List ℕ) → All (λ c. get_or ts (f c) (node 0 none) ≡ get_or us c (node 0 none)) cs → row_of ts (map f cs) ≡ row_of us cs
+row_renumbered : (ts us : List Tree) (f : ℕ → ℕ) (cs : List ℕ) → AllByRecursion (λ c. get_or ts (f c) (node 0 none) ≡ get_or us c (node 0 none)) cs → row_of ts (map f cs) ≡ row_of us cs
 row_renumbered ts us f [] all = refl
 row_renumbered ts us f (c ∷ cs) all = λ i. all.0 i ▹ row_renumbered ts us f cs all.1 i
 
@@ -30,7 +30,7 @@ module _ (ranks : List ℕ) (ns : List Node) (top : ℕ) (m : List ℕ) (list : 
       let w = N.onto (k - 1) (omega arith) in
       ⊎_elim (λ s. sym (ap (λ i. get_or m i 0) s) ∙ w.2 ∙ omega arith) (λ n. absurd (omega (arith, w.1, w.2, N.order w.0 top (omega (arith, w.1)) (omega arith) high))) (cases_eq w.0 top)
 
-  earlier : (j : ℕ) → j < top + 1 → All (λ c. c < j) (children_of ranks (get_or ns j blank))
+  earlier : (j : ℕ) → j < top + 1 → AllByRecursion (λ c. c < j) (children_of ranks (get_or ns j blank))
   earlier j h = children_earlier ranks j (get_or ns j blank) (small (get_or ns j blank).symbol) (good j h)
 
   -- the entry written for a marked one
@@ -85,10 +85,10 @@ module _ (ranks : List ℕ) (ns : List Node) (top : ℕ) (m : List ℕ) (list : 
       let R = N.written j h g in
       let within : number m j < k = omega (arith, N.bound j h) in
       let here = reads (number m j) within in
-      let before : All (λ c. c < number m j) (children_of ranks (get_or ls (number m j) blank)) =
+      let before : AllByRecursion (λ c. c < number m j) (children_of ranks (get_or ls (number m j) blank)) =
       children_earlier ranks (number m j) (get_or ls (number m j) blank) (small (get_or ls (number m j) blank).symbol) (subst (Good ranks (number m j)) (sym here) (good_number j h g)) in
       let marked = N.marking.closed j (omega arith) h g in
-      let same : All (λ c. tree_at ranks ls (number m c) ≡ tree_at ranks ns c) cs =
+      let same : AllByRecursion (λ c. tree_at ranks ls (number m c) ≡ tree_at ranks ns c) cs =
       All-from_get_or (λ c. tree_at ranks ls (number m c) ≡ tree_at ranks ns c) cs 0 (λ p q.
       let low = All-get_or (λ c. c < j) cs p 0 q (earlier j h) in
       tree_below b (get_or cs p 0) (omega arith) (omega arith) (All-get_or (λ c. 0 < get_or m c 0) cs p 0 q marked)) in
@@ -101,7 +101,7 @@ module _ (ranks : List ℕ) (ns : List Node) (top : ℕ) (m : List ℕ) (list : 
   pub pruned_tree : tree_of ranks (take k list) ≡ tree_at ranks ns top
   pruned_tree = ap (tree_at ranks (take k list)) (omega (arith, count, last_number)) ∙ tree_below (suc top) top (omega arith) (omega arith) N.marking.top_marked
 
-  pub pruned_used : (i : ℕ) → i + 1 < k → (j : ℕ) × (i < j) × (j < k) × Has (children_of ranks (get_or list j blank)) i
+  pub pruned_used : (i : ℕ) → i + 1 < k → (j : ℕ) × (i < j) × (j < k) × ContainsAt (children_of ranks (get_or list j blank)) i
   pruned_used i h =
       let w = N.onto i (omega arith) in
       let below : w.0 < top = ⊎_elim (λ s. absurd (omega (arith, ap (λ x. get_or m x 0) s, w.2, last_number))) (λ n. omega (arith, w.1)) (cases_eq w.0 top) in
@@ -109,9 +109,9 @@ module _ (ranks : List ℕ) (ns : List Node) (top : ℕ) (m : List ℕ) (list : 
       let is : number m w.0 ≡ i = ap (λ x. x - 1) w.2 ∙ omega arith in
       let R = N.written v.0 v.2 v.3 in
       let cs = children_of ranks (get_or ns v.0 blank) in
-      let has : Has (children_of ranks (get_or list (number m v.0) blank)) (number m w.0) =
-      subst (λ (xs : List ℕ). Has xs (number m w.0)) (sym R.children) (has_map (number m) cs w.0 v.4) in
-      (number m v.0, omega (arith, w.2, N.order w.0 v.0 v.1 v.2 v.3), omega (arith, N.bound v.0 v.2, v.3), subst (Has (children_of ranks (get_or list (number m v.0) blank))) is has)
+      let has : ContainsAt (children_of ranks (get_or list (number m v.0) blank)) (number m w.0) =
+      subst (λ (xs : List ℕ). ContainsAt xs (number m w.0)) (sym R.children) (has_map (number m) cs w.0 v.4) in
+      (number m v.0, omega (arith, w.2, N.order w.0 v.0 v.1 v.2 v.3), omega (arith, N.bound v.0 v.2, v.3), subst (ContainsAt (children_of ranks (get_or list (number m v.0) blank))) is has)
 
 -- so a list whose numbering is complete is written
 pub pruned : {V : Type 0} (ranks : List ℕ) (work work' : List (Place V)) (top : ℕ) (m : List ℕ) (list list' : List Node) (k : ℕ) → ((s : ℕ) → rank ranks s ≤ 4) → top + 1 ≤ 8192 → length list' ≡ length list → top < length list → drop k list' ≡ drop k list → Kept work work' → Entries ranks work top → Numbering ranks (nodes work' (top + 1)) top m list' (top + 1) k → Written ranks work top list list' k

@@ -1,6 +1,6 @@
 -- The way from a live state depends only on the trees of the states that are reached.
 use Rattle.std.proofs.Common.{◌≡◌, ℕ, zero, suc, ◌<◌, Bool, true, false, get_or, take, drop, sym, refl, ap, ◌∙◌, ap₂, arith}
-use Rattle.std.specs.List.{AllByRecursion as All}
+use Rattle.std.specs.List.{AllByRecursion}
 use Rattle.std.proofs.ByRecursion.{All-weaker, All-take, All-drop}
 use Rattle.automata.specs.Trees.{Tree}
 use Rattle.automata.specs.Automata.{Transition, Automaton}
@@ -14,9 +14,9 @@ use Rattle.comparison.proofs.Climbs.{row_same}
 use Rattle.comparison.proofs.Paths.{Onward, onward, live_place, path_ends, path_goes}
 
 module _ {W : Type 0} (A : Automaton W) (R : Reach) (L : Life) (lively : Lively A R L) (f g : ℕ → Tree) (agree : (q : ℕ) → Flagged R.reached q → f q ≡ g q) where
-  within_same : (r : Transition W) (k : ℕ) (c : Context) → All (Flagged R.reached) r.children → within_rule f r k c ≡ within_rule g r k c
+  within_same : (r : Transition W) (k : ℕ) (c : Context) → AllByRecursion (Flagged R.reached) r.children → within_rule f r k c ≡ within_rule g r k c
   within_same r k c reached =
-      let all : All (λ q. f q ≡ g q) r.children = All-weaker (Flagged R.reached) (λ q. f q ≡ g q) agree r.children reached in
+      let all : AllByRecursion (λ q. f q ≡ g q) r.children = All-weaker (Flagged R.reached) (λ q. f q ≡ g q) agree r.children reached in
       ap₂ (λ us vs. under r.symbol us c vs) (row_same f g (take k r.children) (All-take (λ q. f q ≡ g q) k r.children all)) (row_same f g (drop (suc k) r.children) (All-drop (λ q. f q ≡ g q) (suc k) r.children all))
 
   way_same : (fuel i x : ℕ) (c : Context) → i < L.count → get_or L.order i 0 ≡ x → path_over A L f fuel x c ≡ path_over A L g fuel x c

@@ -1,6 +1,6 @@
 -- The search as a whole: how it begins, goes on and ends.
 use Rattle.std.proofs.Common.{◌≡◌, ℕ, zero, suc, ◌+◌, ◌*◌, ◌<◌, ◌≤◌, List, length, get_or, Some, None, Option, sym, refl, ◌∙◌, arith}
-use Rattle.std.specs.List.{ContainsAt as Has}
+use Rattle.std.specs.List.{ContainsAt}
 use Rattle.std.proofs.lemmas.List.{length-map}
 use Rattle.kinds.specs.Weights.{Weights}
 use Rattle.automata.specs.Automata.{Transition}
@@ -73,9 +73,9 @@ module _ {V W : Type 0} (K : Weights W) (stands : V → W) (t : TwoTables V) (be
         let end = at_end (length t.first_rules.now) (length t.second_rules.now) len c (sym e) in
         let clear = p.clear in
         let R = runs_in stands work in
-        let first : (r : Transition W) → Has T.first.rules r → ClearRule K T R N First r =
+        let first : (r : Transition W) → ContainsAt T.first.rules r → ClearRule K T R N First r =
         has_below (ClearRule K T R N First) T.first.rules c.first (omega (arith, end.0, many_first)) (λ k h r i. clear.first_clear k r h i (all_rested First c.start end.2 r.children)) in
-        let second : (r : Transition W) → Has T.second.rules r → ClearRule K T R N Second r =
+        let second : (r : Transition W) → ContainsAt T.second.rules r → ClearRule K T R N Second r =
         has_below (ClearRule K T R N Second) T.second.rules c.second (omega (arith, end.1, many_second)) (λ k h r i. clear.second_clear k r h i (all_rested Second c.start end.2 r.children)) in
         record {
           forest = s.forest;

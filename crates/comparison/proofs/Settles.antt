@@ -1,6 +1,6 @@
 -- Where every rule is clear, the known pairs are a complete exploration.
 use Rattle.std.proofs.Common.{◌≡◌, ℕ, suc, ◌-◌, ◌<◌, Bool, true, false, cond, ltb, List, [], ◌∷◌, map, length, Some, None, Option, sym, refl, ap, ◌∙◌, subst, arith}
-use Rattle.std.specs.List.{ContainsAt as Has}
+use Rattle.std.specs.List.{ContainsAt}
 use Rattle.std.proofs.ByRecursion.{all_has_itself}
 use Rattle.std.proofs.lemmas.Bool.{ltb-true, lt-ltb}
 use Rattle.kinds.specs.Weights.{Weights}
@@ -137,7 +137,7 @@ module _ {W : Type 0} (K : Weights W) where
         }
 
     -- every rule is clear
-    module _ (clear_first : (r : Transition W) → Has T.first.rules r → ClearRule K T R N First r) (clear_second : (r : Transition W) → Has T.second.rules r → ClearRule K T R N Second r) (same : T.first.ranks ≡ T.second.ranks) (live₁ : DecidesLive K T.first T.first_live) (live₂ : DecidesLive K T.second T.second_live) (sound₁ : Sound T.first) (sound₂ : Sound T.second) where
+    module _ (clear_first : (r : Transition W) → ContainsAt T.first.rules r → ClearRule K T R N First r) (clear_second : (r : Transition W) → ContainsAt T.second.rules r → ClearRule K T R N Second r) (same : T.first.ranks ≡ T.second.ranks) (live₁ : DecidesLive K T.first T.first_live) (live₂ : DecidesLive K T.second T.second_live) (sound₁ : Sound T.first) (sound₂ : Sound T.second) where
       -- the run of the first rule over the row, and of the second
       ran : (A : Automaton W) (live : ℕ → Bool) (f : ℕ → Option (At W)) (s : ℕ) (es ps : List ℕ) (v : W) (r : Transition W) → row_runs K (map f es) ≡ Some (record { states = ps; weight = v }) → find A.rules s ps ≡ Some r → live r.target ≡ true → to_live live (step K A s (row_runs K (map f es))) ≡ Some (record { state = r.target; weight = K.times v r.weight })
       ran A live f s es ps v r row there l =
@@ -157,9 +157,9 @@ module _ {W : Type 0} (K : Weights W) where
           record { rule = d.0; there = d.1; is = d.2; is_live = ap (λ (x : At W). live x.state) (sym d.2) ∙ l.1 }
 
       -- the rule that is found is clear, at its symbol and its children
-      clear_found : (side : Side) (A : Automaton W) (live : ℕ → Bool) → ((r : Transition W) → Has A.rules r → ClearRule K T R N side r) → live_on T side ≡ live → Sound A → A.ranks ≡ T.first.ranks → (s : ℕ) (ps es : List ℕ) (r : Transition W) → find A.rules s ps ≡ Some r → live r.target ≡ true → Tuple side N ps es → Clears K R N (node_run K T R First s es) (node_run K T R Second s es)
+      clear_found : (side : Side) (A : Automaton W) (live : ℕ → Bool) → ((r : Transition W) → ContainsAt A.rules r → ClearRule K T R N side r) → live_on T side ≡ live → Sound A → A.ranks ≡ T.first.ranks → (s : ℕ) (ps es : List ℕ) (r : Transition W) → find A.rules s ps ≡ Some r → live r.target ≡ true → Tuple side N ps es → Clears K R N (node_run K T R First s es) (node_run K T R Second s es)
       clear_found side A live clear l-is sound ranks s ps es r there l tuple =
-          let has = find_all (Has A.rules) A.rules s ps r (all_has_itself A.rules) there in
+          let has = find_all (ContainsAt A.rules) A.rules s ps r (all_has_itself A.rules) there in
           let within = find_all (Within A.ranks A.states) A.rules s ps r sound.within there in
           let s_is = find_symbol A.rules s ps r there in
           let ps_is = find_children A.rules s ps r there in

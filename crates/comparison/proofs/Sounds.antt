@@ -1,6 +1,6 @@
 -- Testing whether rules are sound, one behind the other.
 use Rattle.std.proofs.Common.{◌≡◌, ℕ, zero, suc, ◌+◌, ◌<◌, ◌≤◌, Bool, true, false, cond, List, [], ◌∷◌, ◌++◌, map, length, get_or, take, Some, None, Decides, sym, refl, ap, ◌∙◌, subst, arith}
-use Rattle.std.specs.List.{AllByRecursion as All, slice_get}
+use Rattle.std.specs.List.{AllByRecursion, slice_get}
 use Rattle.std.proofs.ByRecursion.{All-push, All-get_or, All-from_get_or}
 use Rattle.std.proofs.lemmas.List.{length-take, length-take-le, get_or-take, take_more, take_all, take-map, map_push}
 use Rattle.std.proofs.lemmas.Bool.{both_ways, false≢true}
@@ -19,12 +19,12 @@ use Rattle.comparison.specs.Soundness.{Next}
 
 -- whether the first n of some numbers are below a bound, tested one by one
 module _ (bound : ℕ) (qs : List ℕ) (m n : ℕ) (same : m ≡ n) (short : n ≤ length qs) where
-  pub one_past : (k : ℕ) → k < m → bound ≤ get_or qs k 0 → Decides false (All (λ q. q < bound) (take n qs))
+  pub one_past : (k : ℕ) → k < m → bound ≤ get_or qs k 0 → Decides false (AllByRecursion (λ q. q < bound) (take n qs))
   one_past k h past =
       let l = length-take n qs in
       ((λ e. absurd (false≢true e)), (λ all. absurd (omega (arith, get_or-take n qs k 0 (omega arith), All-get_or (λ q. q < bound) (take n qs) k 0 (omega arith) all))))
 
-  pub each_below : ((k : ℕ) → k < m → get_or qs k 0 < bound) → Decides true (All (λ q. q < bound) (take n qs))
+  pub each_below : ((k : ℕ) → k < m → get_or qs k 0 < bound) → Decides true (AllByRecursion (λ q. q < bound) (take n qs))
   each_below low =
       let l = length-take n qs in
       ((λ e. All-from_get_or (λ q. q < bound) (take n qs) 0 (λ k h. omega (arith, get_or-take n qs k 0 (omega arith), low k (omega arith)))), (λ all. refl))
@@ -46,7 +46,7 @@ module _ {W : Type 0} where
       at false f ih = ih
 
 -- the symbol and the target are the shape's, and the children are tested
-pub within_by : {V W : Type 0} (stands : V → W) (shape : Shape) (rule : Rule V) (r : Bool) → length rule.left.children ≡ 4 → rule.left.symbol < length (ranks_in shape) → rule.target < states_in shape → Decides r (All (λ q. q < states_in shape) (children_in shape rule.left)) → Decides r (Within (ranks_in shape) (states_in shape) (transition stands (ranks_in shape) rule))
+pub within_by : {V W : Type 0} (stands : V → W) (shape : Shape) (rule : Rule V) (r : Bool) → length rule.left.children ≡ 4 → rule.left.symbol < length (ranks_in shape) → rule.target < states_in shape → Decides r (AllByRecursion (λ q. q < states_in shape) (children_in shape rule.left)) → Decides r (Within (ranks_in shape) (states_in shape) (transition stands (ranks_in shape) rule))
 within_by stands shape rule r four symbol target below = (
   (λ e. record {
     symbol_within = symbol;
@@ -71,7 +71,7 @@ module _ {V W : Type 0} (stands : V → W) (shape : Shape) (rules : List (Rule V
       let one : map (transition stands (ranks_in shape)) (take (i + 1) rules) ≡ before ++ t ∷ [] =
       ap (map (transition stands (ranks_in shape))) (take_more rules i x low ∙ ap (λ y. take i rules ++ y ∷ []) (sym is)) ∙ map_push (transition stands (ranks_in shape)) (take i rules) x ∙ ap (λ us. us ++ t ∷ []) first in
       record {
-        within = subst (All (Within (ranks_in shape) (states_in shape))) (sym one) (All-push (Within (ranks_in shape) (states_in shape)) before t (subst (All (Within (ranks_in shape) (states_in shape))) first s.within) n.within);
+        within = subst (AllByRecursion (Within (ranks_in shape) (states_in shape))) (sym one) (All-push (Within (ranks_in shape) (states_in shape)) before t (subst (AllByRecursion (Within (ranks_in shape) (states_in shape))) first s.within) n.within);
         single = subst Single (sym one) (single_push before t (subst Single first s.single) n.free);
       }
 

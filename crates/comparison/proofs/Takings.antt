@@ -12,7 +12,7 @@ use Rattle.rules.specs.Running.{row_runs}
 use Rattle.rules.specs.Shapes.{ranks_in}
 use Rattle.comparison.specs.Forest.{nodes, Forest}
 use Rattle.comparison.specs.Differing.{weight_by}
-use Rattle.comparison.specs.declared.exploring_outcome.Outcome.TheVariants.{Differs, Lone as End-lone, Uneven as End-uneven}
+use Rattle.comparison.specs.declared.exploring_outcome.Outcome.TheVariants.{Differs, Lone as EndLone, Uneven as EndUneven}
 use Rattle.comparison.specs.declared.scan_finding.Finding.{Finding}
 use Rattle.comparison.specs.declared.scan_tables.TwoTables.{TwoTables}
 use Rattle.comparison.specs.declared.scan_verdict.Verdict.{Verdict}
@@ -58,11 +58,11 @@ module _ {V W : Type 0} (K : Weights W) (stands : V → W) (t : TwoTables V) (wo
     pub taken_differs : (N' : ℕ → ℕ → ℕ) → (weight_by T.first.accepting (R' First len) ≡ weight_by T.second.accepting (R' Second len) → ⊥) → Taken K stands T base work work' N N' len (Some (Differs len))
     taken_differs N' apart = (grown same forest, older, (omega arith, apart))
 
-    pub taken_lone : (N' : ℕ → ℕ → ℕ) (side : Side) → f.verdict ≡ Lone side → Taken K stands T base work work' N N' len (Some (End-lone side len))
+    pub taken_lone : (N' : ℕ → ℕ → ℕ) (side : Side) → f.verdict ≡ Lone side → Taken K stands T base work work' N N' len (Some (EndLone side len))
     taken_lone N' First e = (grown same forest, older, (omega arith, lone_first K T R R' N len told.symbol es ran (said (Lone First) e)))
     taken_lone N' Second e = (grown same forest, older, (omega arith, lone_second K T R R' N len told.symbol es ran (said (Lone Second) e)))
 
-    pub taken_uneven : (N' : ℕ → ℕ → ℕ) (o : ℕ) → f.verdict ≡ Uneven o → Taken K stands T base work work' N N' len (Some (End-uneven len o))
+    pub taken_uneven : (N' : ℕ → ℕ → ℕ) (o : ℕ) → f.verdict ≡ Uneven o → Taken K stands T base work work' N N' len (Some (EndUneven len o))
     taken_uneven N' o e =
         let u = uneven K T R R' N len told.symbol es ran base o (runs_kept stands work work' len kept) pairing (said (Uneven o) e) in
         (grown same forest, older, (omega arith, omega (arith, u.0), u.1))

@@ -1,6 +1,6 @@
 -- What a comparison of two tables answers and leaves.
 use Rattle.std.specs.Prelude.{◌≡◌, ℕ, ◌+◌, ◌<◌, ◌⊎◌, List, [], ◌∷◌, length, take, drop, ◌≢◌, slice_index_or}
-use Rattle.std.specs.List.{ContainsAt as Has}
+use Rattle.std.specs.List.{ContainsAt}
 use Rattle.kinds.specs.Weights.{Weights}
 use Rattle.automata.specs.Automata.{Automaton, Sound}
 use Rattle.automata.specs.Runs.{Alike}
@@ -22,7 +22,7 @@ compare_tests A B list work =
 pub record ToldApart {W : Type 0} (K : Weights W) (A B : Automaton W) (list list' : List Node) (k : ℕ) : Type 0 where
   pub is_list : IsTreeList A.ranks (take k list')
   pub witness : Witness K A B (tree_of A.ranks (take k list'))
-  pub used : (i : ℕ) → i + 1 < k → (j : ℕ) × (i < j) × (j < k) × Has (children_of A.ranks (slice_index_or list' j blank)) i
+  pub used : (i : ℕ) → i + 1 < k → (j : ℕ) × (i < j) × (j < k) × ContainsAt (children_of A.ranks (slice_index_or list' j blank)) i
   pub beyond : drop k list' ≡ drop k list
   pub same_length : length list' ≡ length list
 

@@ -1,6 +1,6 @@
 -- Marks on the entries of a work list: which entries a tree uses, and their numbers once only those are written.
 use Rattle.std.specs.Prelude.{◌≡◌, ℕ, ◌+◌, ◌-◌, ◌<◌, ◌≤◌, List, [], ◌∷◌, map, length, slice_index, slice_index_or, slice_set}
-use Rattle.std.specs.List.{ContainsAt as Has, AllByRecursion as All}
+use Rattle.std.specs.List.{ContainsAt, AllByRecursion}
 use Rattle.automata.specs.Trees.{rank}
 use Rattle.trees.specs.declared.node.Node.{Node}
 use Rattle.trees.specs.Lists.{blank, children_of, GoodAt}
@@ -31,8 +31,8 @@ marked_at m (c ∷ cs) = marked_at (slice_set m c 1) cs
 -- top is marked, an entry below it only as a child of a marked one, and from the entry e on the children of what is marked are
 pub record Marking (ranks : List ℕ) (ns : List Node) (top : ℕ) (m : List ℕ) (e : ℕ) : Type 0 where
   pub top_marked : 0 < slice_index m top
-  pub needed : (i : ℕ) → i < top → 0 < slice_index m i → (j : ℕ) × (i < j) × (j < top + 1) × (0 < slice_index m j) × Has (children_of ranks (slice_index_or ns j blank)) i
-  pub closed : (j : ℕ) → e ≤ j → j < top + 1 → 0 < slice_index m j → All (λ c. 0 < slice_index m c) (children_of ranks (slice_index_or ns j blank))
+  pub needed : (i : ℕ) → i < top → 0 < slice_index m i → (j : ℕ) × (i < j) × (j < top + 1) × (0 < slice_index m j) × ContainsAt (children_of ranks (slice_index_or ns j blank)) i
+  pub closed : (j : ℕ) → e ≤ j → j < top + 1 → 0 < slice_index m j → AllByRecursion (λ c. 0 < slice_index m c) (children_of ranks (slice_index_or ns j blank))
 
 -- the number of a marked entry
 abbrev pub number : List ℕ → ℕ → ℕ

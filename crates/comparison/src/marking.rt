@@ -1,6 +1,6 @@
 // Marking the entries of a work list that the tree of one of them uses.
 ghost use Rattle.std.specs.Prelude.{◌≡◌, ℕ, ◌+◌, ◌<◌, true, ◌↔◌, length, slice_index, slice_index_or, slice_set};
-ghost use Rattle.std.specs.List.{AllByRecursion as All};
+ghost use Rattle.std.specs.List.{AllByRecursion};
 ghost use Rattle.trees.specs.Lists.{blank, children_of};
 ghost use Rattle.rules.specs.Shapes.{ranks_in};
 ghost use Rattle.comparison.specs.Forest.{nodes};
@@ -61,7 +61,7 @@ fn clear<W: Kind>(work: &mut [Place<W>], top: usize)
 
 // Marks the children of a node.
 fn mark_children<W: Kind>(shape: &Shape, work: &mut [Place<W>], node: &Node)
-    requires { All (λ c. c < length work.old) (children_of (ranks_in shape.now) node.now) }
+    requires { AllByRecursion (λ c. c < length work.old) (children_of (ranks_in shape.now) node.now) }
     ensures marks { marks work.new ≡ marked_at (marks work.old) (children_of (ranks_in shape.now) node.now) }
     ensures kept { Kept work.old work.new }
 {

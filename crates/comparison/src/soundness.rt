@@ -1,6 +1,6 @@
 // Whether rules are sound: their symbols and states are the shape's, and no two have one left side.
 ghost use Rattle.std.specs.Prelude.{◌≡◌, ◌<◌, map, length, is_some, Decides};
-ghost use Rattle.std.specs.List.{AllByRecursion as All};
+ghost use Rattle.std.specs.List.{AllByRecursion};
 ghost use Rattle.automata.specs.Automata.{find, Within, Sound};
 ghost use Rattle.rules.specs.Shapes.{ranks_in, states_in, transition, automaton};
 ghost use Rattle.liveness.specs.Reaching.{children_in};
@@ -11,7 +11,7 @@ use rules::{LeftSide, Rule, Shape, rule_for};
 
 // Whether all children of a left side are states.
 fn are_states(shape: &Shape, left: &LeftSide) -> bool
-    ensures below { Decides result (All (λ q. q < states_in shape.now) (children_in shape.now left.now)) }
+    ensures below { Decides result (AllByRecursion (λ q. q < states_in shape.now) (children_in shape.now left.now)) }
     ensures four { length left.now.children ≡ 4 }
 {
     for k in 0..shape.rank(usize::from(left.symbol)) {

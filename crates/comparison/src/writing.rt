@@ -1,6 +1,6 @@
 // Writing the tree of one entry of a work list, with no entry that it does not use.
 ghost use Rattle.std.specs.Prelude.{◌≡◌, ◌+◌, ◌<◌, ◌≤◌, length, drop, slice_index, slice_set};
-ghost use Rattle.std.specs.List.{AllByRecursion as All};
+ghost use Rattle.std.specs.List.{AllByRecursion};
 ghost use Rattle.trees.specs.Lists.{children_of};
 ghost use Rattle.rules.specs.Shapes.{ranks_in};
 ghost use Rattle.comparison.specs.Forest.{nodes};
@@ -14,7 +14,7 @@ use trees::Node;
 
 // The node with each child by its number.
 fn renumbered<W: Kind>(shape: &Shape, work: &[Place<W>], node: &Node) -> Node
-    requires { All (λ c. 0 < slice_index (marks work.now) c) (children_of (ranks_in shape.now) node.now) }
+    requires { AllByRecursion (λ c. 0 < slice_index (marks work.now) c) (children_of (ranks_in shape.now) node.now) }
     ensures { Renumbered (ranks_in shape.now) (marks work.now) node.now result }
 {
     let rank = shape.rank(node.symbol);

@@ -1,7 +1,7 @@
 //! Known cases of the definitions, and a round of calls that shows what the whole promise says.
 #![tactic(auto)]
 
-ghost use Rattle.std.specs.List.{AllByRecursion as All};
+ghost use Rattle.std.specs.List.{AllByRecursion};
 ghost use Rattle.known.specs.Cases.{Holds, cases};
 
 mod rounds;
@@ -12,5 +12,5 @@ pub use shown::Shown;
 
 // The definitions give what is known of small tables and weights.
 pub fn known_cases_hold()
-    ensures { All Holds cases }
+    ensures { AllByRecursion Holds cases }
 {}

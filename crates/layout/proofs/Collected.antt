@@ -1,6 +1,6 @@
 -- The numbers of a part, one after another.
 use Rattle.std.proofs.Common.{◌≡◌, ℕ, ◌+◌, ◌*◌, ◌/◌, ◌<◌, ◌≤◌, List, [], ◌∷◌, ◌++◌, length, get_or, take, drop, Some, None, sym, refl, ap, ◌∙◌, arith}
-use Rattle.std.specs.List.{AllByRecursion as All}
+use Rattle.std.specs.List.{AllByRecursion}
 use Rattle.std.proofs.ByRecursion.{All-get_or}
 use Rattle.std.proofs.lemmas.List.{take_more, take_all}
 use Rattle.layout.specs.Answers.{ReadsNumbers}
@@ -10,7 +10,7 @@ use Rattle.layout.proofs.Unique.{number_same}
 
 -- the numbers are the first of those that the part has
 abbrev Collected : List ℕ → List ℕ → ℕ → Type 0
-Collected part numbers i = (ns : List ℕ) → All Short ns → part ≡ fields ns → numbers ≡ take i ns
+Collected part numbers i = (ns : List ℕ) → AllByRecursion Short ns → part ≡ fields ns → numbers ≡ take i ns
 
 pub collected_more : (part cut numbers more : List ℕ) (i n : ℕ) → i < length part / 6 → cut ≡ take 6 (drop (6 * i) part) → ReadsNumber cut (Some n) → more ≡ numbers ++ n ∷ [] → Collected part numbers i → Collected part more (i + 1)
 collected_more part cut numbers more i n less at reads is so_far ns all whole =

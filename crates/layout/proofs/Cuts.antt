@@ -1,6 +1,6 @@
 -- Parts that are fields of six columns, cut at their columns.
 use Rattle.std.proofs.Common.{◌≡◌, ℕ, zero, suc, ◌+◌, ◌*◌, ◌/◌, ◌%◌, ◌<◌, ◌≤◌, true, false, List, [], ◌∷◌, ◌++◌, length, get_or, take, drop, pos, is_some, Some, None, Option, sym, refl, ap, ◌∙◌, append_assoc, append-nil, arith, length-append, take-add}
-use Rattle.std.specs.List.{AllByRecursion as All}
+use Rattle.std.specs.List.{AllByRecursion}
 use Rattle.std.proofs.lemmas.Fmt.{length-decimal-le}
 use Rattle.std.proofs.ByRecursion.{All-get_or, All-push}
 use Rattle.std.proofs.lemmas.List.{take_at, drop_at, take_all, drop-drop}
@@ -11,7 +11,7 @@ use Rattle.layout.proofs.Padding.{field_length}
 pub length_field : (n : ℕ) → Short n → length (field 6 (pos n)) ≡ 6
 length_field n short = field_length 6 (pos n) (length-decimal-le 6 n (omega arith) (omega arith) (omega arith))
 
-pub length_fields : (ns : List ℕ) → All Short ns → length (fields ns) ≡ 6 * length ns
+pub length_fields : (ns : List ℕ) → AllByRecursion Short ns → length (fields ns) ≡ 6 * length ns
 length_fields [] short = refl
 length_fields (n ∷ ns) short = omega (arith, length-append (field 6 (pos n)) (fields ns), length_field n short.0, length_fields ns short.1)
 
@@ -23,7 +23,7 @@ fields_append (m ∷ ms) ns = ap (λ l. field 6 (pos m) ++ l) (fields_append ms 
 pub cut_front : (u f v : List ℕ) (k : ℕ) → length f ≡ k → u ≡ f ++ v → (take k u ≡ f) × (drop k u ≡ v)
 cut_front u f v k long is = (ap (take k) is ∙ take_at f v k long, ap (drop k) is ∙ drop_at f v k long)
 
-pub field_at : (ns : List ℕ) (i : ℕ) → All Short ns → i < length ns → take 6 (drop (6 * i) (fields ns)) ≡ field 6 (pos (get_or ns i 0))
+pub field_at : (ns : List ℕ) (i : ℕ) → AllByRecursion Short ns → i < length ns → take 6 (drop (6 * i) (fields ns)) ≡ field 6 (pos (get_or ns i 0))
 field_at [] i short less = absurd (omega arith)
 field_at (n ∷ ns) zero short less = take_at (field 6 (pos n)) (fields ns) 6 (length_field n short.0)
 field_at (n ∷ ns) (suc i) short less =

@@ -1,6 +1,6 @@
 -- The text of a line is what is written of its entry.
 use Rattle.std.proofs.Common.{◌≡◌, ℕ, ◌+◌, ◌*◌, ◌<◌, ◌≤◌, List, [], ◌∷◌, ◌++◌, length, get_or, take, drop, pos, Some, None, sym, refl, ap, ◌∙◌, append_assoc, append-nil, arith, length-append, length-drop, length-take, Bor}
-use Rattle.std.specs.List.{AllByRecursion as All}
+use Rattle.std.specs.List.{AllByRecursion}
 use Rattle.std.proofs.ByRecursion.{All-from_get_or}
 use Rattle.std.proofs.lemmas.List.{take-append-drop, drop-drop, drop_all, get_or-drop, get_or-take}
 use Rattle.layout.specs.declared.line.Line.TheVariants.{Kind, Table, Accept, Rule, End}
@@ -83,7 +83,7 @@ table_cuts text n ranks short is =
     record { long = omega (arith, ap length is, length-append (field 6 (pos n)) (fields ranks)); states = cuts.0; others = sym (drop-drop 6 1 text) ∙ cuts.1 }
 
 -- no table's line has the text
-pub table_none : (text : List ℕ) → Lettered 84 text → ((n : ℕ) (ranks : List ℕ) → Short n → All Short ranks → TableCuts text n ranks → ⊥) → ReadsEntry text None
+pub table_none : (text : List ℕ) → Lettered 84 text → ((n : ℕ) (ranks : List ℕ) → Short n → AllByRecursion Short ranks → TableCuts text n ranks → ⊥) → ReadsEntry text None
 table_none text lettered none (kind n) fits is = omega (arith, same_letter 84 text (kind n) lettered is)
 table_none text lettered none (table n ranks) fits is = none n ranks fits.0 fits.1 (table_cuts text n ranks fits.0 is)
 table_none text lettered none (accept q) fits is = omega (arith, same_letter 84 text (accept q) lettered is)
@@ -100,7 +100,7 @@ rule_written s t weight qs =
     rest : (a b c d : List ℕ) → a ++ b ++ c ++ d ≡ a ++ (b ++ (c ++ d))
     rest a b c d = simp append_assoc
 
-unbroken_part : (text : List ℕ) (from count : ℕ) → from + count ≤ length text → Unbroken text → All (λ b. b ≡ 10 → ⊥) (take count (drop from text))
+unbroken_part : (text : List ℕ) (from count : ℕ) → from + count ≤ length text → Unbroken text → AllByRecursion (λ b. b ≡ 10 → ⊥) (take count (drop from text))
 unbroken_part text from count long unbroken =
     All-from_get_or _ (take count (drop from text)) 0 (λ i less is.
     let inside : i < count = omega (arith, length-take count (drop from text)) in
@@ -143,7 +143,7 @@ rule_cuts text s t weight qs fits is =
     let long : length text ≡ 25 + 6 * length qs = omega (arith, ap length whole, length-append (field 6 (pos s)) rest_s, length-append (field 6 (pos t)) rest_t, length-append weight (fields qs), length_fields qs fits.5, length_field s fits.0, length_field t fits.1, fits.2) in
     record { sized = record { least = omega arith; most = omega (arith, fits.4) }; symbol = one.0; target = two.0; bytes = three.0; others = sym (drop-drop 12 13 text) ∙ three.1 }
 
-pub rule_none : (text : List ℕ) → Lettered 82 text → ((s t : ℕ) (weight qs : List ℕ) → Short s → Short t → All Short qs → RuleCuts text s t weight qs → ⊥) → ReadsEntry text None
+pub rule_none : (text : List ℕ) → Lettered 82 text → ((s t : ℕ) (weight qs : List ℕ) → Short s → Short t → AllByRecursion Short qs → RuleCuts text s t weight qs → ⊥) → ReadsEntry text None
 rule_none text lettered none (kind n) fits is = omega (arith, same_letter 82 text (kind n) lettered is)
 rule_none text lettered none (table n ranks) fits is = omega (arith, same_letter 82 text (table n ranks) lettered is)
 rule_none text lettered none (accept q) fits is = omega (arith, same_letter 82 text (accept q) lettered is)

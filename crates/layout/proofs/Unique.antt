@@ -2,7 +2,7 @@
 use Rattle.std.proofs.Common.{◌≡◌, ℕ, ◌+◌, ◌-◌, List, [], ◌∷◌, ◌++◌, length, get_or, take, drop, replicate, ℤ, pos, Some, decimal, sym, refl, ap, ◌∙◌, ap₂, arith, length-append}
 use native.Mathlib.Decide.{dec_lt}
 use lib.ListN.{length-replicate}
-use Rattle.std.specs.List.{AllByRecursion as All}
+use Rattle.std.specs.List.{AllByRecursion}
 use Rattle.std.specs.Fmt.{signed_decimal}
 use Rattle.std.proofs.lemmas.Fmt.{decimal_is_IsNumeral, decimal_injective, signed_decimal_injective}
 use Rattle.std.proofs.ByRecursion.{All-append, All-from_get_or, All-get_or}
@@ -26,7 +26,7 @@ field_same y z long-y long-z is =
     let fits_z = long_fits z long-z in
     signed_decimal_injective y z fits_y fits_z (same_rest (12 - length (signed_decimal y)) (12 - length (signed_decimal z)) (signed_decimal y) (signed_decimal z) is (first_signed_other y fits_y) (first_signed_other z fits_z))
 
-pub fields_same : (ms ns : List ℕ) → All Short ms → All Short ns → fields ms ≡ fields ns → ms ≡ ns
+pub fields_same : (ms ns : List ℕ) → AllByRecursion Short ms → AllByRecursion Short ns → fields ms ≡ fields ns → ms ≡ ns
 fields_same [] [] all_m all_n is = refl
 fields_same [] (n ∷ ns) all_m all_n is = absurd (omega (arith, ap length is, length-append (field 6 (pos n)) (fields ns), length_field n all_n.0))
 fields_same (m ∷ ms) [] all_m all_n is = absurd (omega (arith, ap length is, length-append (field 6 (pos m)) (fields ms), length_field m all_m.0))
@@ -40,7 +40,7 @@ fields_same (m ∷ ms) (n ∷ ns) all_m all_n is =
 abbrev Plain : ℕ → Type 0
 Plain b = b ≡ 10 → ⊥
 
-plain_field : (n : ℕ) → Short n → All Plain (field 6 (pos n))
+plain_field : (n : ℕ) → Short n → AllByRecursion Plain (field 6 (pos n))
 plain_field n short =
     let blanks : ℕ = 6 - length (decimal n) in
     let reads = decimal_is_IsNumeral n (omega arith) in
@@ -48,11 +48,11 @@ plain_field n short =
     (All-from_get_or Plain (replicate blanks 32) 0 (λ i less is. omega (arith, get_or-replicate {A = ℕ} blanks i 32 0 (omega (arith, length-replicate {A = ℕ} blanks 32)))))
     (All-from_get_or Plain (decimal n) 0 (λ i less is. omega (arith, digit_at (decimal n) i reads.0.1 less)))
 
-plain_fields : (ns : List ℕ) → All Short ns → All Plain (fields ns)
+plain_fields : (ns : List ℕ) → AllByRecursion Short ns → AllByRecursion Plain (fields ns)
 plain_fields [] all = tt
 plain_fields (n ∷ ns) all = All-append Plain (field 6 (pos n)) (fields ns) (plain_field n all.0) (plain_fields ns all.1)
 
-plain_written : (e : Entry) → Fits e → All Plain (written e)
+plain_written : (e : Entry) → Fits e → AllByRecursion Plain (written e)
 plain_written (kind n) fits = (λ is. omega arith, plain_fields (n ∷ []) (fits, tt))
 plain_written (table n ranks) fits = (λ is. omega arith, plain_fields (n ∷ ranks) fits)
 plain_written (accept q) fits = (λ is. omega arith, plain_fields (q ∷ []) (fits, tt))

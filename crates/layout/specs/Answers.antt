@@ -1,11 +1,11 @@
 -- The lines that are written, and the numbers that are read of a part.
 use Rattle.std.specs.Prelude.{◌≡◌, ℕ, List, [], ◌∷◌, ◌++◌, ℤ, pos, Some, None, Option}
-use Rattle.std.specs.List.{AllByRecursion as All}
+use Rattle.std.specs.List.{AllByRecursion}
 use Rattle.layout.specs.Fields.{field, fields, Short}
 
 -- where the part is the fields of short numbers, these are the numbers
 abbrev pub ReadsNumbers : List ℕ → List ℕ → Type 0
-ReadsNumbers part numbers = (ns : List ℕ) → All Short ns → part ≡ fields ns → numbers ≡ ns
+ReadsNumbers part numbers = (ns : List ℕ) → AllByRecursion Short ns → part ≡ fields ns → numbers ≡ ns
 
 -- a letter and the fields of numbers
 abbrev pub number_line : ℕ → List ℕ → List ℕ

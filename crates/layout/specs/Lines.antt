@@ -1,6 +1,6 @@
 -- The bytes of a line, by what it says.
 use Rattle.std.specs.Prelude.{◌≡◌, ℕ, ◌<◌, ◌≤◌, List, [], ◌∷◌, ◌++◌, length, drop, Some, None, Option, ◌≢◌}
-use Rattle.std.specs.List.{AllByRecursion as All}
+use Rattle.std.specs.List.{AllByRecursion}
 use Rattle.std.proofs.Common.{Bor}
 use Rattle.layout.specs.declared.line.Line.{Line}
 use Rattle.layout.specs.declared.line.Line.TheVariants.{Kind, Table, Accept, Rule, End}
@@ -26,9 +26,9 @@ written end = 69 ∷ []
 -- its numbers fit their columns; a weight has twelve columns, none of them byte 10; a rule has at most four children
 abbrev pub Fits : Entry → Type 0
 Fits (kind n) = Short n
-Fits (table n ranks) = Short n × All Short ranks
+Fits (table n ranks) = Short n × AllByRecursion Short ranks
 Fits (accept q) = Short q
-Fits (rule s t weight qs) = Short s × Short t × (length weight ≡ 12) × All (λ b. b ≢ 10) weight × (length qs ≤ 4) × All Short qs
+Fits (rule s t weight qs) = Short s × Short t × (length weight ≡ 12) × AllByRecursion (λ b. b ≢ 10) weight × (length qs ≤ 4) × AllByRecursion Short qs
 Fits end = Unit {0}
 
 -- the bytes begin with the line of the entry, and the others follow

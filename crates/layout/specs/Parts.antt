@@ -1,13 +1,13 @@
 -- The parts of a line, as they are read.
 use Rattle.std.specs.Prelude.{◌≡◌, ℕ, ◌<◌, ◌≤◌, List, length, Some, None, Option, ◌≢◌, slice_index, slice_index_or}
-use Rattle.std.specs.List.{AllByRecursion as All}
+use Rattle.std.specs.List.{AllByRecursion}
 use Rattle.layout.specs.declared.line.Line.{Line}
 use Rattle.layout.specs.Fields.{fields, Short}
 use Rattle.layout.specs.Lines.{Entry, written, Fits, Says}
 
 -- the part is the fields of some numbers
 abbrev pub Numbers : List ℕ → Type 0
-Numbers part = (ns : List ℕ) × All Short ns × (part ≡ fields ns)
+Numbers part = (ns : List ℕ) × AllByRecursion Short ns × (part ≡ fields ns)
 
 -- no byte of the text ends a line
 abbrev pub Unbroken : List ℕ → Type 0

@@ -1,6 +1,6 @@
 -- A pass over the rules from the leaves up: each state that is added is derived, and a pass that adds none leaves nothing to add.
 use Rattle.std.proofs.Common.{◌≡◌, ℕ, ◌+◌, ◌<◌, ◌≤◌, true, false, List, map, length, get_or, take, set, replicate, Some, sym, refl, ap, ◌∙◌, subst, inl, inr, arith, below_more}
-use Rattle.std.specs.List.{ContainsAt as Has, AllByRecursion as All, slice_get}
+use Rattle.std.specs.List.{ContainsAt, AllByRecursion, slice_get}
 use Rattle.std.proofs.lemmas.List.{get_or-set_same, get_or-set_other, length-set, length-map, get_or-map}
 use Rattle.std.proofs.lemmas.Option.{slice_get-get_or}
 use Rattle.std.proofs.ByRecursion.{All-weaker}
@@ -17,7 +17,7 @@ nth_mapped f xs i x h e =
     slice_get-get_or (map f xs) i (f x) l ∙ ap Some (get_or-map f xs i x (f x) h ∙ ap f (sym e))
 
 -- what holds at every place below n holds of every element
-pub has_below : {X : Type 0} (P : X → Type 0) (xs : List X) (n : ℕ) → length xs ≤ n → ((k : ℕ) → k < n → (x : X) → slice_get xs k ≡ Some x → P x) → (x : X) → Has xs x → P x
+pub has_below : {X : Type 0} (P : X → Type 0) (xs : List X) (n : ℕ) → length xs ≤ n → ((k : ℕ) → k < n → (x : X) → slice_get xs k ≡ Some x → P x) → (x : X) → ContainsAt xs x → P x
 has_below P xs n long all x h = all h.0 (omega (arith, h.1)) x (slice_get-get_or xs h.0 x h.1 ∙ ap Some (h.2 x))
 
 -- the arrays have their lengths
@@ -33,14 +33,14 @@ module _ {W : Type 0} (A : Automaton W) where
       Sized R × Reaching A R × (b ≤ R.count) × (R.count ≡ b → (k : ℕ) → k < i → (r : Transition W) → slice_get A.rules k ≡ Some r → Follows A R r)
 
   module _ (few : A.states ≤ 48) (R : Reach) (sized : Sized R) (g : Reaching A R) where
-    reaching_more : (r : Transition W) (j : ℕ) → slice_get A.rules j ≡ Some r → r.target < A.states → get_or R.reached r.target false ≡ false → All (Flagged R.reached) r.children → Reaching A (reached_too R r.target j)
+    reaching_more : (r : Transition W) (j : ℕ) → slice_get A.rules j ≡ Some r → r.target < A.states → get_or R.reached r.target false ≡ false → AllByRecursion (Flagged R.reached) r.children → Reaching A (reached_too R r.target j)
     reaching_more r j there new off all =
         let q = r.target in
         let last : Derived A (take R.count R.order) q j = record {
           rule = r;
           there = there;
           target = refl;
-          children = All-weaker (Flagged R.reached) (Has (take R.count R.order)) (λ p f. (g.0.flagged p).0 f) r.children all;
+          children = All-weaker (Flagged R.reached) (ContainsAt (take R.count R.order)) (λ p f. (g.0.flagged p).0 f) r.children all;
         } in (
           listed_more A.states R.reached R.order R.count sized.reached sized.order few g.0 q new off,
           traced_more A.states R.reached R.order R.count sized.reached sized.order few g.0 q new off

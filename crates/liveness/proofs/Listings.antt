@@ -1,6 +1,6 @@
 -- Lists of states with flags: what a flag says, and one state more.
 use Rattle.std.proofs.Common.{◌≡◌, ℕ, suc, ◌+◌, ◌<◌, ◌≤◌, Bool, true, false, ◌⊎◌, List, [], ◌∷◌, ◌++◌, length, get_or, take, set, replicate, sym, refl, ap, ◌∙◌, subst, inl, inr, ⊎_elim, arith}
-use Rattle.std.specs.List.{ContainsAt as Has}
+use Rattle.std.specs.List.{ContainsAt}
 use Rattle.std.proofs.lemmas.List.{length-take, get_or-take, get_or_default, get_or-set_same, get_or-set_other, take-set-le, take_more_set}
 use Rattle.std.proofs.ByRecursion.{has_push, has_append_left, has_push_cases}
 use Rattle.std.proofs.lemmas.Bool.{both_ways, cases_eq, cases_lt}
@@ -9,13 +9,13 @@ use Rattle.trees.proofs.Ranks.{getD_constant}
 use Rattle.liveness.specs.Listings.{Flagged, Listed}
 
 -- what stands among the first n of a list stands at a place below n, and conversely
-pub place_before : (n : ℕ) (xs : List ℕ) (q : ℕ) → Has (take n xs) q → (i : ℕ) × (i < n) × (i < length xs) × (get_or xs i 0 ≡ q)
+pub place_before : (n : ℕ) (xs : List ℕ) (q : ℕ) → ContainsAt (take n xs) q → (i : ℕ) × (i < n) × (i < length xs) × (get_or xs i 0 ≡ q)
 place_before n xs q h =
     let m = length-take n xs in
     let low : h.0 < n = omega (arith, h.1) in
     (h.0, low, omega (arith, h.1), sym (get_or-take n xs h.0 0 low) ∙ h.2 0)
 
-pub before_place : (n : ℕ) (xs : List ℕ) (i : ℕ) → i < n → i < length xs → Has (take n xs) (get_or xs i 0)
+pub before_place : (n : ℕ) (xs : List ℕ) (i : ℕ) → i < n → i < length xs → ContainsAt (take n xs) (get_or xs i 0)
 before_place n xs i low short =
     let m = length-take n xs in
     (i, omega arith, λ d. get_or-take n xs i d low ∙ get_or_default xs i d 0 short)
@@ -44,7 +44,7 @@ module _ (states : ℕ) (flags : List Bool) (order : List ℕ) (count : ℕ) (wi
   fresh : (i : ℕ) → i < count → get_or order i 0 ≡ q → ⊥
   fresh i h e =
       let b = listed.bounded in
-      let has : Has (take count order) q = subst (Has (take count order)) e (before_place count order i h (omega arith)) in
+      let has : ContainsAt (take count order) q = subst (ContainsAt (take count order)) e (before_place count order i h (omega arith)) in
       both_ways (get_or flags q false) off ((listed.flagged q).1 has)
 
   -- i is the place of k in the list, or k is the state
@@ -93,13 +93,13 @@ module _ (states : ℕ) (flags : List Bool) (order : List ℕ) (count : ℕ) (wi
   pub set_here : Flagged (set flags q true) q
   set_here = get_or-set_same flags q true false (omega arith)
 
-  flagged_forth : (p : ℕ) → Flagged (set flags q true) p → Has (take count order ++ q ∷ []) p
+  flagged_forth : (p : ℕ) → Flagged (set flags q true) p → ContainsAt (take count order ++ q ∷ []) p
   flagged_forth p f =
       ⊎_elim
-      (λ e. subst (Has (take count order ++ q ∷ [])) (sym e) (has_push (take count order) q))
+      (λ e. subst (ContainsAt (take count order ++ q ∷ [])) (sym e) (has_push (take count order) q))
       (λ n. has_append_left (take count order) (q ∷ []) p ((listed.flagged p).0 (sym (get_or-set_other flags q p true false n) ∙ f))) (cases_eq p q)
 
-  flagged_back : (p : ℕ) → Has (take count order ++ q ∷ []) p → Flagged (set flags q true) p
+  flagged_back : (p : ℕ) → ContainsAt (take count order ++ q ∷ []) p → Flagged (set flags q true) p
   flagged_back p h =
       ⊎_elim
       (λ l. flag_kept flags q p (omega arith) ((listed.flagged p).1 l))
@@ -110,7 +110,7 @@ module _ (states : ℕ) (flags : List Bool) (order : List ℕ) (count : ℕ) (wi
     bounded = let r = room in omega arith;
     within = within_more;
     distinct = distinct_more;
-    flagged = λ p. ((λ f. subst (λ (xs : List ℕ). Has xs p) (sym grown) (flagged_forth p f)), (λ h. flagged_back p (subst (λ (xs : List ℕ). Has xs p) grown h)));
+    flagged = λ p. ((λ f. subst (λ (xs : List ℕ). ContainsAt xs p) (sym grown) (flagged_forth p f)), (λ h. flagged_back p (subst (λ (xs : List ℕ). ContainsAt xs p) grown h)));
   }
 
   -- what holds of each state and those before it, if a new state changes it only at that state

@@ -1,6 +1,6 @@
 -- The states that are listed as live are the live ones, in a sound automaton.
 use Rattle.std.proofs.Common.{◌≡◌, ℕ, ◌<◌, false, ◌⊎◌, List, ◌∷◌, get_or, take, Some, ◌∙◌, subst, inl, inr, arith}
-use Rattle.std.specs.List.{ContainsAt as Has, AllByRecursion as All}
+use Rattle.std.specs.List.{ContainsAt, AllByRecursion}
 use Rattle.std.proofs.ByRecursion.{All-weaker, all_has_itself}
 use Rattle.kinds.specs.Weights.{Weights}
 use Rattle.automata.specs.Trees.{Tree, Row, none, ◌▹◌, joined}
@@ -24,29 +24,29 @@ use Rattle.liveness.proofs.Reaches.{strong, all_nth, find_itself, run_flagged, r
 
 module _ {W : Type 0} (K : Weights W) (A : Automaton W) where
   -- what all states of a row have, the state of one of its trees has
-  row_part : (P : ℕ → Type 0) (before : Row) (t : Tree) (after : Row) (b : Ats W) → runs K A (joined before (t ▹ after)) ≡ Some b → All P b.states → (a : At W) × (run K A t ≡ Some a) × P a.state
+  row_part : (P : ℕ → Type 0) (before : Row) (t : Tree) (after : Row) (b : Ats W) → runs K A (joined before (t ▹ after)) ≡ Some b → AllByRecursion P b.states → (a : At W) × (run K A t ≡ Some a) × P a.state
   row_part P none t after b e all =
       let d = beside_some K (run K A t) (runs K A after) b e in
-      let parts : All P (d.first.state ∷ d.rest.states) = rw d.both at all in
+      let parts : AllByRecursion P (d.first.state ∷ d.rest.states) = rw d.both at all in
       (d.first, d.first_is, parts.0)
   row_part P (u ▹ before) t after b e all =
       let d = beside_some K (run K A u) (runs K A (joined before (t ▹ after))) b e in
-      let parts : All P (d.first.state ∷ d.rest.states) = rw d.both at all in
+      let parts : AllByRecursion P (d.first.state ∷ d.rest.states) = rw d.both at all in
       row_part P before t after d.rest d.rest_is parts.1
 
   module _ (sound : Sound A) (R : Reach) (reached : Reached A R) (L : Life) (lively : Lively A R L) where
     -- a state that a rule leads on to a live one
-    led_live : (before : List ℕ) (q j k : ℕ) → ((p : ℕ) → Has before p → Live K A p) → Leads A R before q j k → Live K A q
+    led_live : (before : List ℕ) (q j k : ℕ) → ((p : ℕ) → ContainsAt before p → Live K A p) → Leads A R before q j k → Live K A q
     led_live before q j k earlier d =
         let r = d.rule in
         let row : Access K A r.children = access K A r.children (All-weaker (Flagged R.reached) (Reachable K A) (λ p f. (reaches K A sound R reached p).0 f) r.children d.reached) in
         let within = all_nth (Within A.ranks A.states) A.rules j r sound.within d.there in
-        let all : All (Live K A) r.children =
+        let all : AllByRecursion (Live K A) r.children =
         children_live K A r.symbol row.row (record { states = r.children; weight = row.weight }) r within.symbol_within (row.as_many ∙ within.children_rank) row.over row.runs_to
         (find_itself A.rules j r sound.single d.there) (earlier r.target d.target).sign in
         all_nth (Live K A) r.children k q all d.child
 
-    listed_live : (before : List ℕ) (q j k : ℕ) → ((p : ℕ) → Has before p → Live K A p) → Accepts A.accepting R q ⊎ Leads A R before q j k → Live K A q
+    listed_live : (before : List ℕ) (q j k : ℕ) → ((p : ℕ) → ContainsAt before p → Live K A p) → Accepts A.accepting R q ⊎ Leads A R before q j k → Live K A q
     listed_live before q j k earlier (inl a) = record { reachable = (reaches K A sound R reached q).0 a.1; sign = sign_accepting K A q a.0 }
     listed_live before q j k earlier (inr d) = led_live before q j k earlier d
 
@@ -65,8 +65,8 @@ module _ {W : Type 0} (K : Weights W) (A : Automaton W) where
         let d = step_some K A s (runs K A ts) b f in
         let r = d.rule in
         let same = find_children A.rules s d.row.states r d.found in
-        let has = find_all (Has A.rules) A.rules s d.row.states r (all_has_itself A.rules) d.found in
-        let all : All (Flagged L.live) r.children = lively.closed r has (rw same (runs_flagged K A sound R reached ts d.row d.row_is)) (rw d.reached at on) in
+        let has = find_all (ContainsAt A.rules) A.rules s d.row.states r (all_has_itself A.rules) d.found in
+        let all : AllByRecursion (Flagged L.live) r.children = lively.closed r has (rw same (runs_flagged K A sound R reached ts d.row d.row_is)) (rw d.reached at on) in
         let x = row_part (Flagged L.live) before (plug c t) after d.row d.row_is (rw same at all) in
         plug_flagged c t a x.0 e x.1 x.2
 

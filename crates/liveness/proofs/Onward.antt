@@ -1,6 +1,6 @@
 -- Going down from the accepting states: each state that is added is led on, and a pass that adds none leaves nothing to add.
 use Rattle.std.proofs.Common.{◌≡◌, ℕ, ◌+◌, ◌<◌, ◌≤◌, true, false, ◌⊎◌, List, [], ◌∷◌, length, get_or, take, set, replicate, Some, sym, refl, ◌∙◌, subst, inl, inr, ⊎_elim, arith, below_more}
-use Rattle.std.specs.List.{AllByRecursion as All, slice_get}
+use Rattle.std.specs.List.{AllByRecursion, slice_get}
 use Rattle.std.proofs.lemmas.List.{get_or-set_same, get_or-set_other, length-set}
 use Rattle.std.proofs.lemmas.Option.{slice_get-get_or}
 use Rattle.std.proofs.ByRecursion.{All-from_get_or}
@@ -15,7 +15,7 @@ use Rattle.liveness.specs.Reaching.{Reached}
 use Rattle.liveness.specs.Living.{Leads, Accepts, Lively, live_too, Noted, Begun, Living, GoesOn, Followed, Rests}
 use Rattle.liveness.proofs.Listings.{listed_none, listed_more, traced_more, flag_kept, flagged_within, set_here}
 
-all_both : {X : Type 0} (P Q S : X → Type 0) → ((x : X) → P x → Q x → S x) → (xs : List X) → All P xs → All Q xs → All S xs
+all_both : {X : Type 0} (P Q S : X → Type 0) → ((x : X) → P x → Q x → S x) → (xs : List X) → AllByRecursion P xs → AllByRecursion Q xs → AllByRecursion S xs
 all_both P Q S f [] p q = tt
 all_both P Q S f (x ∷ xs) p q = (f x p.0 q.0, all_both P Q S f xs p.1 q.1)
 
@@ -80,7 +80,7 @@ living_begun stands shape rules R L b = record { listed = b.listed; led = λ i h
 
 module _ {W : Type 0} (A : Automaton W) (R : Reach) where
   -- a state that a rule leads on to a target in the list is added
-  living_more : A.states ≤ 48 → (L : Life) → Sized L → Living A R L → (r : Transition W) (q j k : ℕ) → slice_get A.rules j ≡ Some r → All (Flagged R.reached) r.children → slice_get r.children k ≡ Some q → Flagged L.live r.target → q < A.states → get_or L.live q false ≡ false → Living A R (live_too L q j k)
+  living_more : A.states ≤ 48 → (L : Life) → Sized L → Living A R L → (r : Transition W) (q j k : ℕ) → slice_get A.rules j ≡ Some r → AllByRecursion (Flagged R.reached) r.children → slice_get r.children k ≡ Some q → Flagged L.live r.target → q < A.states → get_or L.live q false ≡ false → Living A R (live_too L q j k)
   living_more few L s g r q j k there all child target new off =
       let before = take L.count L.order in
       let last : Leads A R before q j k = record { rule = r; there = there; reached = all; child = child; target = (g.listed.flagged r.target).0 target } in
@@ -104,7 +104,7 @@ module _ {W : Type 0} (A : Automaton W) (R : Reach) where
     pub same : L'.count ≡ L.count → L' ≡ L
     pub noted : L'.count ≡ L.count → (i : ℕ) → i < k → get_or r.children i 0 < A.states → Flagged L.live (get_or r.children i 0)
 
-  pub leading_more : A.states ≤ 48 → (r : Transition W) (L L' L'' : Life) (j k : ℕ) → slice_get A.rules j ≡ Some r → All (Flagged R.reached) r.children → k < length r.children → Leading r L L' k → Noted A.states (get_or r.children k 0) j k L' L'' → Leading r L L'' (k + 1)
+  pub leading_more : A.states ≤ 48 → (r : Transition W) (L L' L'' : Life) (j k : ℕ) → slice_get A.rules j ≡ Some r → AllByRecursion (Flagged R.reached) r.children → k < length r.children → Leading r L L' k → Noted A.states (get_or r.children k 0) j k L' L'' → Leading r L L'' (k + 1)
   leading_more few r L L' L'' j k there all h g (inl t) =
       subst (λ S. Leading r L S (k + 1)) (sym t.0) (record {
         sized = g.sized;
@@ -133,7 +133,7 @@ module _ {W : Type 0} (A : Automaton W) (R : Reach) where
     same = g.same;
     goes_on = λ e x f all on.
         let is : r ≡ x = cc in
-        subst (λ (y : Transition W). All (λ c. c < A.states → Flagged L.live c) y.children) is
+        subst (λ (y : Transition W). AllByRecursion (λ c. c < A.states → Flagged L.live c) y.children) is
         (All-from_get_or (λ c. c < A.states → Flagged L.live c) r.children 0 (λ i l. g.noted e i (omega arith)));
   }
 

@@ -1,6 +1,6 @@
 -- The states that are reached are the reachable ones, in a sound automaton.
 use Rattle.std.proofs.Common.{◌≡◌, ℕ, zero, suc, ◌<◌, Bool, true, false, cond, ◌↔◌, List, [], ◌∷◌, get_or, take, Some, None, refl, ap, ◌∙◌, subst, arith}
-use Rattle.std.specs.List.{ContainsAt as Has, AllByRecursion as All, slice_get}
+use Rattle.std.specs.List.{ContainsAt, AllByRecursion, slice_get}
 use Rattle.std.proofs.ByRecursion.{All-weaker, all_has_itself}
 use Rattle.kinds.specs.Weights.{Weights}
 use Rattle.automata.specs.Trees.{Tree, Row, node, none, ◌▹◌}
@@ -23,7 +23,7 @@ strong_below P step (suc n) i h = step i (λ j l. strong_below P step n j (omega
 pub strong : (P : ℕ → Type 0) → ((i : ℕ) → ((j : ℕ) → j < i → P j) → P i) → (i : ℕ) → P i
 strong P step i = strong_below P step (suc i) i (omega arith)
 
-pub all_nth : {X : Type 0} (P : X → Type 0) (xs : List X) (i : ℕ) (x : X) → All P xs → slice_get xs i ≡ Some x → P x
+pub all_nth : {X : Type 0} (P : X → Type 0) (xs : List X) (i : ℕ) (x : X) → AllByRecursion P xs → slice_get xs i ≡ Some x → P x
 all_nth P [] i x h e = let z : ◌≡◌ {A = ℕ} 0 1 = cc in absurd (omega arith)
 all_nth P (y ∷ xs) zero x h e = let s : y ≡ x = cc in subst P s h.0
 all_nth P (y ∷ xs) (suc i) x h e = all_nth P xs i x h.1 e
@@ -46,7 +46,7 @@ module _ {W : Type 0} where
       at false f ih = ih
 
   -- the target of a rule all of whose children are reachable
-  pub target_reachable : (K : Weights W) (A : Automaton W) → Sound A → (j : ℕ) (r : Transition W) → slice_get A.rules j ≡ Some r → All (Reachable K A) r.children → Reachable K A r.target
+  pub target_reachable : (K : Weights W) (A : Automaton W) → Sound A → (j : ℕ) (r : Transition W) → slice_get A.rules j ≡ Some r → AllByRecursion (Reachable K A) r.children → Reachable K A r.target
   target_reachable K A sound j r there all =
       let row : Access K A r.children = access K A r.children all in
       let within = all_nth (Within A.ranks A.states) A.rules j r sound.within there in
@@ -62,8 +62,8 @@ module _ {W : Type 0} where
     place_reachable : (i : ℕ) → i < R.count → Reachable K A (get_or R.order i 0)
     place_reachable = strong (λ i. i < R.count → Reachable K A (get_or R.order i 0)) (λ i before h.
         let d = reached.derived i h in
-        let children : All (Reachable K A) d.rule.children =
-        All-weaker (Has (take i R.order)) (Reachable K A) (λ c has.
+        let children : AllByRecursion (Reachable K A) d.rule.children =
+        All-weaker (ContainsAt (take i R.order)) (Reachable K A) (λ c has.
         let p = place_before i R.order c has in
         subst (Reachable K A) p.3 (before p.0 p.1 (omega (arith, p.1)))) d.rule.children d.children in
         subst (Reachable K A) d.target (target_reachable K A sound (get_or R.rule (get_or R.order i 0) 0) d.rule d.there children))
@@ -74,12 +74,12 @@ module _ {W : Type 0} where
       run_flagged (node s ts) a e =
           let d = step_some K A s (runs K A ts) a e in
           let same = find_children A.rules s d.row.states d.rule d.found in
-          let has = find_all (Has A.rules) A.rules s d.row.states d.rule (all_has_itself A.rules) d.found in
+          let has = find_all (ContainsAt A.rules) A.rules s d.row.states d.rule (all_has_itself A.rules) d.found in
           let within = find_all (Within A.ranks A.states) A.rules s d.row.states d.rule sound.within d.found in
           let on : Flagged R.reached d.rule.target = reached.closed d.rule has (rw same (runs_flagged ts d.row d.row_is)) within.target_within in
           rw d.reached on
 
-      pub runs_flagged : (ts : Row) (b : Ats W) → runs K A ts ≡ Some b → All (Flagged R.reached) b.states
+      pub runs_flagged : (ts : Row) (b : Ats W) → runs K A ts ≡ Some b → AllByRecursion (Flagged R.reached) b.states
       runs_flagged none b e = let i : b ≡ record { states = []; weight = K.one } = cc in rw i tt
       runs_flagged (t ▹ ts) b e =
           let d = beside_some K (run K A t) (runs K A ts) b e in

@@ -1,6 +1,6 @@
 -- Live states, found from the accepting ones down.
 use Rattle.std.specs.Prelude.{◌≡◌, ℕ, ◌+◌, ◌<◌, ◌≤◌, Bool, true, false, ◌⊎◌, List, take, Some, slice_index, slice_index_or, slice_set}
-use Rattle.std.specs.List.{ContainsAt as Has, AllByRecursion as All, slice_get}
+use Rattle.std.specs.List.{ContainsAt, AllByRecursion, slice_get}
 use Rattle.automata.specs.Automata.{Transition, Automaton}
 use Rattle.rules.specs.declared.shape.Shape.{Shape}
 use Rattle.rules.specs.Shapes.{states_in, accepts_in}
@@ -12,9 +12,9 @@ use Rattle.liveness.specs.Listings.{Flagged, Listed}
 pub record Leads {W : Type 0} (A : Automaton W) (R : Reach) (before : List ℕ) (q j k : ℕ) : Type 0 where
   pub rule : Transition W
   pub there : slice_get A.rules j ≡ Some rule
-  pub reached : All (Flagged R.reached) rule.children
+  pub reached : AllByRecursion (Flagged R.reached) rule.children
   pub child : slice_get rule.children k ≡ Some q
-  pub target : Has before rule.target
+  pub target : ContainsAt before rule.target
 
 abbrev pub Accepts : (ℕ → Bool) → Reach → ℕ → Type 0
 Accepts accepting R q = (accepting q ≡ true) × Flagged R.reached q
@@ -28,7 +28,7 @@ pub record Lively {W : Type 0} (A : Automaton W) (R : Reach) (L : Life) : Type 0
   pub listed : Listed A.states L.live L.order L.count
   pub led : Led A R L
   pub begins : (q : ℕ) → Flagged R.reached q → A.accepting q ≡ true → Flagged L.live q
-  pub closed : (r : Transition W) → Has A.rules r → All (Flagged R.reached) r.children → Flagged L.live r.target → All (Flagged L.live) r.children
+  pub closed : (r : Transition W) → ContainsAt A.rules r → AllByRecursion (Flagged R.reached) r.children → Flagged L.live r.target → AllByRecursion (Flagged L.live) r.children
 
 -- with one state more, which the rule at the place j has in its child place k
 abbrev pub live_too : Life → ℕ → ℕ → ℕ → Life
@@ -64,11 +64,11 @@ pub record Living {W : Type 0} (A : Automaton W) (R : Reach) (L : Life) : Type 0
 -- the children of a rule are flagged if its target is and all of them are reached
 abbrev pub GoesOn : {W : Type 0} → Automaton W → Reach → Life → Transition W → Type 0
 GoesOn A R L r =
-    All (Flagged R.reached) r.children → Flagged L.live r.target → All (λ c. c < A.states → Flagged L.live c) r.children
+    AllByRecursion (Flagged R.reached) r.children → Flagged L.live r.target → AllByRecursion (λ c. c < A.states → Flagged L.live c) r.children
 
 -- so it is for every rule
 abbrev pub Rests : {W : Type 0} → Automaton W → Reach → Life → Type 0
-Rests {W} A R L = (r : Transition W) → Has A.rules r → GoesOn A R L r
+Rests {W} A R L = (r : Transition W) → ContainsAt A.rules r → GoesOn A R L r
 
 -- the rule at the place j has been followed from L to L'
 pub record Followed {W : Type 0} (A : Automaton W) (R : Reach) (j : ℕ) (L L' : Life) : Type 0 where

@@ -1,6 +1,6 @@
 -- Reachable states, found from the leaves up.
 use Rattle.std.specs.Prelude.{◌≡◌, ℕ, ◌+◌, ◌<◌, true, false, ◌⊎◌, List, take, Some, slice_index, slice_index_or, slice_set}
-use Rattle.std.specs.List.{ContainsAt as Has, AllByRecursion as All, slice_get}
+use Rattle.std.specs.List.{ContainsAt, AllByRecursion, slice_get}
 use Rattle.automata.specs.Trees.{rank}
 use Rattle.automata.specs.Automata.{Transition, Automaton}
 use Rattle.rules.specs.declared.left_side.LeftSide.{LeftSide}
@@ -14,7 +14,7 @@ pub record Derived {W : Type 0} (A : Automaton W) (before : List ℕ) (q j : ℕ
   pub rule : Transition W
   pub there : slice_get A.rules j ≡ Some rule
   pub target : rule.target ≡ q
-  pub children : All (Has before) rule.children
+  pub children : AllByRecursion (ContainsAt before) rule.children
 
 -- every state of the list is derived from those before it
 abbrev pub Derives : {W : Type 0} → Automaton W → Reach → Type 0
@@ -22,11 +22,11 @@ Derives A R = (i : ℕ) → i < R.count → Derived A (take i R.order) (slice_in
 
 -- the target of a rule is flagged if all its children are
 abbrev pub Follows : {W : Type 0} → Automaton W → Reach → Transition W → Type 0
-Follows A R r = All (Flagged R.reached) r.children → r.target < A.states → Flagged R.reached r.target
+Follows A R r = AllByRecursion (Flagged R.reached) r.children → r.target < A.states → Flagged R.reached r.target
 
 -- so it is for every rule
 abbrev pub Settled : {W : Type 0} → Automaton W → Reach → Type 0
-Settled {W} A R = (r : Transition W) → Has A.rules r → Follows A R r
+Settled {W} A R = (r : Transition W) → ContainsAt A.rules r → Follows A R r
 
 pub record Reached {W : Type 0} (A : Automaton W) (R : Reach) : Type 0 where
   pub listed : Listed A.states R.reached R.order R.count
@@ -53,5 +53,5 @@ children_in s l = take (rank (ranks_in s) l.symbol) l.children
 -- trying a rule with the target q, at the place j, leaves R as it is or adds q
 abbrev pub Tried : ℕ → List ℕ → ℕ → ℕ → Reach → Reach → Type 0
 Tried states children q j R R' =
-    ((R' ≡ R) × (All (Flagged R.reached) children → q < states → Flagged R.reached q))
-    ⊎ ((R' ≡ reached_too R q j) × (q < states) × (slice_index_or R.reached q false ≡ false) × All (Flagged R.reached) children)
+    ((R' ≡ R) × (AllByRecursion (Flagged R.reached) children → q < states → Flagged R.reached q))
+    ⊎ ((R' ≡ reached_too R q j) × (q < states) × (slice_index_or R.reached q false ≡ false) × AllByRecursion (Flagged R.reached) children)

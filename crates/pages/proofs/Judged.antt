@@ -2,7 +2,7 @@
 use Rattle.std.proofs.Common.{◌≡◌, ℕ, ◌+◌, ◌*◌, ◌<◌, ◌≤◌, List, [], ◌∷◌, ◌++◌, length, get_or, take, ℤ, Ok, Err, vec_items, Option, Result, Vec, sym, refl, ap, ◌∙◌, subst, ap₂, inl, inr, ⊎_elim, mul-le-mul, arith}
 use lib.Seq.{take-append-le}
 use Rattle.std.specs.Option.{option_map}
-use Rattle.std.specs.List.{ContainsAt as Has}
+use Rattle.std.specs.List.{ContainsAt}
 use Rattle.std.proofs.lemmas.List.{length-take, get_or-take, get_or_past, take_all}
 use Rattle.std.proofs.lemmas.Bool.{cases_lt}
 use Rattle.kinds.specs.Weights.{Weights}
@@ -42,7 +42,7 @@ pub same_held : {V W : Type 0} (stands : V → W) (c c' : Closed V) → SameClos
 same_held stands c c' s = λ i. holding stands (s.shape i) (s.memory i) (s.count i)
 
 -- an entry that has a child is there
-child_there : (ranks : List ℕ) (list : List Node) (j i : ℕ) → Has (children_of ranks (get_or list j blank)) i → j < length list
+child_there : (ranks : List ℕ) (list : List Node) (j i : ℕ) → ContainsAt (children_of ranks (get_or list j blank)) i → j < length list
 child_there ranks list j i has =
     ⊎_elim (λ less. less)
     (λ past. let few = length-take {A = ℕ} (rank ranks 0) [] in
@@ -114,7 +114,7 @@ module _ {W : Type 0} (K : Weights W) where
         let child = t.used i (omega (arith, size)) in
         let j = child.0 in
         let there : j < length list' = child_there b.content.ranks list' j i child.3 in
-        (j, child.1, omega (arith, size, there, child.2), subst (λ (n : Node). Has (children_of b.content.ranks n) i) (sym (get_or-take k list' j blank child.2)) child.3);
+        (j, child.1, omega (arith, size, there, child.2), subst (λ (n : Node). ContainsAt (children_of b.content.ranks n) i) (sym (get_or-take k list' j blank child.2)) child.3);
     witness = t.witness;
   }
 

@@ -1,6 +1,6 @@
 -- A page is read in one way: one first fault, or two tables with one pair of books.
 use Rattle.std.proofs.Common.{◌≡◌, ℕ, ◌+◌, ◌⊎◌, List, [], ◌∷◌, ◌++◌, length, Some, None, Option, sym, refl, ap, ◌∙◌, subst, ap₂, inl, inr, append_assoc, arith}
-use Rattle.std.specs.List.{AllByRecursion as All}
+use Rattle.std.specs.List.{AllByRecursion}
 use Rattle.kinds.specs.Weights.{Weights}
 use Rattle.rules.specs.Books.{Book, opened}
 use Rattle.layout.specs.Lines.{Entry, kind, table, accept, rule, end, Fits, Begins}
@@ -13,7 +13,7 @@ use Rattle.pages.specs.Laws.{SpellsTables, ReadOnce}
 use Rattle.pages.specs.Runs.{Passes, closed, stopped, Ends, Run}
 use Rattle.pages.proofs.Runs.{lines_append, run_once}
 
-all_first : (es fs : List Entry) → All Fits (es ++ fs) → All Fits es
+all_first : (es fs : List Entry) → AllByRecursion Fits (es ++ fs) → AllByRecursion Fits es
 all_first [] fs a = tt
 all_first (e ∷ es) fs a = (a.0, all_first es fs a.1)
 

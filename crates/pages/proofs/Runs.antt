@@ -1,6 +1,6 @@
 -- The lines of a table, one after another: two runs through the same bytes are one.
 use Rattle.std.proofs.Common.{◌≡◌, ℕ, ◌+◌, ◌<◌, List, [], ◌∷◌, ◌++◌, Some, None, Option, sym, refl, ap, ◌∙◌, subst, ap₂, inl, inr, append_assoc, arith}
-use Rattle.std.specs.List.{AllByRecursion as All}
+use Rattle.std.specs.List.{AllByRecursion}
 use Rattle.kinds.specs.Weights.{Weights}
 use Rattle.trees.specs.declared.refusal.Refusal.{Refusal}
 use Rattle.trees.specs.declared.refusal.Refusal.TheVariants.{Ranks, States}
@@ -41,7 +41,7 @@ lines_append (e ∷ es) fs =
     ap (λ r. written e ++ 10 ∷ r) (lines_append es fs) ∙ sym (append_assoc (written e) (10 ∷ lines es) (lines fs))
 
 -- the first of some lines
-pub begins_lines : (e : Entry) (es : List Entry) (bytes rest : List ℕ) → All Fits (e ∷ es) → bytes ≡ lines (e ∷ es) ++ rest → Begins bytes e (lines es ++ rest)
+pub begins_lines : (e : Entry) (es : List Entry) (bytes rest : List ℕ) → AllByRecursion Fits (e ∷ es) → bytes ≡ lines (e ∷ es) ++ rest → Begins bytes e (lines es ++ rest)
 begins_lines e es bytes rest fit s = record { fits = fit.0; line = s ∙ append_assoc (written e) (10 ∷ lines es) rest }
 
 module _ {W : Type 0} (K : Weights W) where

@@ -1,6 +1,6 @@
 -- Going through the lines of a table.
 use Rattle.std.proofs.Common.{◌≡◌, ℕ, ◌+◌, List, [], ◌∷◌, ◌++◌, length, drop, Some, Ok, Err, Option, sym, refl, ap, ◌∙◌, subst, inl, inr, append_assoc, arith, length-append}
-use Rattle.std.specs.List.{AllByRecursion as All}
+use Rattle.std.specs.List.{AllByRecursion}
 use Rattle.std.proofs.ByRecursion.{All-push}
 use Rattle.kinds.specs.Weights.{Weights}
 use Rattle.rules.specs.Books.{Book}
@@ -18,7 +18,7 @@ use Rattle.pages.proofs.Runs.{lines_append}
 -- the lines between two places of a page were let in, and made the one book the other
 pub record Going {W : Type 0} (K : Weights W) (page : List ℕ) (c c' : Cursor) (b b' : Book W) : Type 0 where
   pub es : List Entry
-  pub fit : All Fits es
+  pub fit : AllByRecursion Fits es
   pub spelled : drop c.at page ≡ lines es ++ drop c'.at page
   pub passes : Passes K (Some b) es (Some b')
   pub number : c'.line ≡ c.line + length es

@@ -1,7 +1,7 @@
 -- The bytes of the answer to a page.
 use Rattle.std.specs.Prelude.{◌≡◌, ℕ, suc, ◌+◌, ◌<◌, ◌≤◌, ◌⊎◌, List, [], ◌∷◌, ◌++◌, length, slice_index_or}
 use Rattle.std.specs.Option.{option_map}
-use Rattle.std.specs.List.{ContainsAt as Has}
+use Rattle.std.specs.List.{ContainsAt}
 use Rattle.kinds.specs.Weights.{Weights}
 use Rattle.automata.specs.Automata.{Automaton, Sound}
 use Rattle.automata.specs.Runs.{weight_of, Alike}
@@ -40,7 +40,7 @@ pub record Least {W : Type 0} (K : Weights W) (b : Book W) (n : ℕ) : Type 0 wh
 pub record ToldApart {W : Type 0} (K : Weights W) (b c : Book W) (n m : ℕ) (out : List ℕ) : Type 0 where
   pub list : List Node
   pub is_list : IsTreeList b.content.ranks list
-  pub used : (i : ℕ) → i + 1 < length list → (j : ℕ) × (i < j) × (j < length list) × Has (children_of b.content.ranks (slice_index_or list j blank)) i
+  pub used : (i : ℕ) → i + 1 < length list → (j : ℕ) × (i < j) × (j < length list) × ContainsAt (children_of b.content.ranks (slice_index_or list j blank)) i
   pub witness : Witness K b.content c.content (tree_of b.content.ranks list)
   pub bytes :
       out ≡ verdict_line 1 n m (length list) ++ node_lines b.content.ranks 0 list

@@ -1,7 +1,7 @@
 -- What the parts of the answer to two tables are, of every history of the tables.
 use Rattle.std.specs.Prelude.{◌≡◌, ℕ, ◌+◌, ◌<◌, List, length, ℤ, Ok, Err, vec_items, Option, Result, Vec, ◌≢◌, slice_index_or}
 use Rattle.std.specs.Option.{option_map}
-use Rattle.std.specs.List.{ContainsAt as Has}
+use Rattle.std.specs.List.{ContainsAt}
 use Rattle.kinds.specs.Weights.{Weights}
 use Rattle.automata.specs.Runs.{weight_of, Alike}
 use Rattle.automata.specs.Comparing.{Witness}
@@ -41,7 +41,7 @@ Codes K b list code = code ≡ option_map K.code (weight_of K b.content (tree_of
 pub record Apart {W : Type 0} (K : Weights W) (b c : Book W) (list : List Node) : Type 0 where
   pub one_alphabet : b.content.ranks ≡ c.content.ranks
   pub is_list : IsTreeList b.content.ranks list
-  pub used : (i : ℕ) → i + 1 < length list → (j : ℕ) × (i < j) × (j < length list) × Has (children_of b.content.ranks (slice_index_or list j blank)) i
+  pub used : (i : ℕ) → i + 1 < length list → (j : ℕ) × (i < j) × (j < length list) × ContainsAt (children_of b.content.ranks (slice_index_or list j blank)) i
   pub witness : Witness K b.content c.content (tree_of b.content.ranks list)
 
 -- the verdict on tables that weigh every tree alike, and on tables that a list tells apart

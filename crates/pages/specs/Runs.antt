@@ -1,6 +1,6 @@
 -- Runs through the lines of a table.
 use Rattle.std.specs.Prelude.{◌≡◌, ℕ, ◌+◌, ◌⊎◌, List, [], ◌∷◌, ◌++◌, length, Some, None, Option}
-use Rattle.std.specs.List.{AllByRecursion as All}
+use Rattle.std.specs.List.{AllByRecursion}
 use Rattle.kinds.specs.Weights.{Weights}
 use Rattle.trees.specs.Refusals.{NoneMet}
 use Rattle.rules.specs.Books.{Book, opened}
@@ -37,7 +37,7 @@ Ends {W} K at rest line out =
 pub record Run {W : Type 0} (K : Weights W) (at : Option (Book W)) (bytes : List ℕ) (line : ℕ) (es : List Entry) (out : Outcome W) : Type 0 where
   pub last : Option (Book W)
   pub rest : List ℕ
-  pub fit : All Fits es
+  pub fit : AllByRecursion Fits es
   pub spelled : bytes ≡ lines es ++ rest
   pub passes : Passes K at es last
   pub ends : Ends K last rest (line + length es) out

@@ -1,6 +1,6 @@
 -- Tables as their lines spell them, and where the lines of a table are refused.
 use Rattle.std.specs.Prelude.{◌≡◌, ℕ, ◌+◌, ◌<◌, ◌⊎◌, List, [], ◌∷◌, ◌++◌, length, Some, None, Option}
-use Rattle.std.specs.List.{AllByRecursion as All}
+use Rattle.std.specs.List.{AllByRecursion}
 use Rattle.kinds.specs.Weights.{Weights}
 use Rattle.kinds.specs.declared.refusal.KindRefusal.TheVariants.{NoWeight}
 use Rattle.trees.specs.declared.refusal.Refusal.{Refusal}
@@ -59,7 +59,7 @@ pub record Tells {W : Type 0} (K : Weights W) (t : Text) (b : Book W) : Type 0 w
 
 -- the bytes begin with the lines of such a text, and the others follow
 pub record Told {W : Type 0} (K : Weights W) (bytes : List ℕ) (t : Text) (b : Book W) (more : List ℕ) : Type 0 where
-  pub fit : All Fits (entries t)
+  pub fit : AllByRecursion Fits (entries t)
   pub spelled : bytes ≡ lines (entries t) ++ more
   pub tells : Tells K t b
 
@@ -93,7 +93,7 @@ pub record Stops {W : Type 0} (K : Weights W) (bytes : List ℕ) (line : ℕ) (f
   pub before : List Entry
   pub so_far : Option (Book W)
   pub rest : List ℕ
-  pub fit : All Fits before
+  pub fit : AllByRecursion Fits before
   pub spelled : bytes ≡ lines before ++ rest
   pub begun : Begun K before so_far
   pub cause : ((e : Entry) × (more : List ℕ) × Begins rest e more × Refuses K so_far e (line + length before) f) ⊎ (((e : Entry) (more : List ℕ) → Begins rest e more → ⊥) × (f ≡ Layout (line + length before)))

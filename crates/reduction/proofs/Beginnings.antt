@@ -1,6 +1,6 @@
 -- The accepting states are chosen first, and in the end all live states are.
 use Rattle.std.proofs.Common.{◌≡◌, ℕ, ◌+◌, Bool, true, false, cond, ◌∷◌, ◌++◌, Some, None, sym, refl, ap, ◌∙◌, subst, ⊎_elim, arith}
-use Rattle.std.specs.List.{ContainsAt as Has, AllByRecursion as All}
+use Rattle.std.specs.List.{ContainsAt, AllByRecursion}
 use Rattle.std.proofs.ByRecursion.{all_has_itself}
 use Rattle.std.proofs.lemmas.Bool.{both_ways, cases_Bool, cases_eq, cases_lt}
 use Rattle.kinds.specs.Weights.{Weights}
@@ -57,7 +57,7 @@ module _ {W : Type 0} (K : Weights W) (A : Automaton W) (live : ℕ → Bool) (m
       gives q a e = ap (λ b. cond b (Some K.one) None) a ∙ ap Some (sym (unit_right K K.one) ∙ ap (K.times K.one) (sym e))
 
   -- if every rule leads back then a sign of life leads back to its state
-  module _ (g : Choosing K A live marks chosen f) (back : (x : Transition W) → Has A.rules x → keeps live x ≡ true → chosen x.target ≡ true → All (λ q. chosen q ≡ true) x.children) where
+  module _ (g : Choosing K A live marks chosen f) (back : (x : Transition W) → ContainsAt A.rules x → keeps live x ≡ true → chosen x.target ≡ true → AllByRecursion (λ q. chosen q ≡ true) x.children) where
     -- a run in a live state that is not chosen, and itself
     abbrev Astray : At W → At W → Type 0
     Astray x y = (chosen x.state ≡ false) × (live x.state ≡ true) × (x ≡ y)
@@ -65,10 +65,10 @@ module _ {W : Type 0} (K : Weights W) (A : Automaton W) (live : ℕ → Bool) (m
     astray : Kept K A Astray
     astray s b d x y r h there children target =
         let keep : keeps live r ≡ true = live_keeps K A live ready.decides r children target in
-        let has : Has A.rules r = find_all (Has A.rules) A.rules s (b.states ++ x.state ∷ d.states) r (all_has_itself A.rules) there in
+        let has : ContainsAt A.rules r = find_all (ContainsAt A.rules) A.rules s (b.states ++ x.state ∷ d.states) r (all_has_itself A.rules) there in
         let same = find_children A.rules s (b.states ++ x.state ∷ d.states) r there in
         let off : chosen r.target ≡ false =
-        ⊎_elim (λ on. absurd (both_ways (chosen x.state) h.0 (all_after (λ q. chosen q ≡ true) b.states (x.state ∷ d.states) (subst (All (λ q. chosen q ≡ true)) same (back r has keep on))).0)) (λ e. e) (cases_Bool (chosen r.target)) in (
+        ⊎_elim (λ on. absurd (both_ways (chosen x.state) h.0 (all_after (λ q. chosen q ≡ true) b.states (x.state ∷ d.states) (subst (AllByRecursion (λ q. chosen q ≡ true)) same (back r has keep on))).0)) (λ e. e) (cases_Bool (chosen r.target)) in (
           r,
           subst (λ z. find A.rules s (b.states ++ z.state ∷ d.states) ≡ Some r) h.2 there,
           (off, (ready.decides r.target).1 target, ap (λ z. record { state = r.target; weight = K.times (K.times b.weight (K.times z.weight d.weight)) r.weight }) h.2),

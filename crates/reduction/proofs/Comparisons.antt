@@ -1,6 +1,6 @@
 -- Comparing two rules that face each other: the pair that it marks, and that it leaves nothing to mark.
 use Rattle.std.proofs.Common.{◌≡◌, ℕ, ◌<◌, Bool, true, false, cond, not, ◌&&◌, ◌||◌, eqb, ◌↔◌, List, length, get_or, take, sym, refl, ap, ◌∙◌, subst, ap₂, inl, inr, ⊎_elim, arith}
-use Rattle.std.specs.List.{ContainsAt as Has}
+use Rattle.std.specs.List.{ContainsAt}
 use Rattle.std.proofs.lemmas.List.{length-take, get_or-take}
 use Rattle.std.proofs.ByRecursion.{All-get_or}
 use Rattle.std.proofs.lemmas.Bool.{both_ways, cases_eq, not-true, not_from_false}
@@ -65,7 +65,7 @@ module _ {W : Type 0} (K : Weights W) (A : Automaton W) (live : ℕ → Bool) (�
     pub compared_alike : (Tells K ρ (flag_at t) r r' → ⊥) → Swept K A live ρ (Compared K A live ρ r r') t t false
     compared_alike n = swept_none K A live ρ (Compared K A live ρ r r') t (λ l j f apart tells. absurd (n tells))
 
-    adds : Sound A → Has A.rules r → Has A.rules r' → keeps live r ≡ true → Tells K ρ (flag_at t) r r' → Adds K A live ρ (flag_at t) p q
+    adds : Sound A → ContainsAt A.rules r → ContainsAt A.rules r' → keeps live r ≡ true → Tells K ρ (flag_at t) r r' → Adds K A live ρ (flag_at t) p q
     adds sound h h' l = rw (← this, ← other) (by ρ)
       where
         by : (σ : Round W) → Tells K σ (flag_at t) r r' → Adds K A live σ (flag_at t) (get_or r.children k 0) (get_or r'.children k 0)
@@ -74,7 +74,7 @@ module _ {W : Type 0} (K : Weights W) (A : Automaton W) (live : ℕ → Bool) (�
         by (round_two f) (inl m) = as_first (targets r r' (facing_swapped A live sound r r' k h h' l facing) m)
         by (round_two f) (inr n) = uneven r r' (facing_swapped A live sound r r' k h h' l facing) n
 
-    pub compared_new : (t' : PairFlags) → ((q : ℕ) → live q ≡ true → q < 48) → Has A.rules r → Has A.rules r' → keeps live r ≡ true → Tells K ρ (flag_at t) r r' → false ≡ flag_at t p q → (p < 48 → q < 48 → (x y : ℕ) → flag_at t' x y ≡ cond ((eqb x p && eqb y q) || (eqb x q && eqb y p)) true (flag_at t x y)) → Swept K A live ρ (Compared K A live ρ r r') t t' true
+    pub compared_new : (t' : PairFlags) → ((q : ℕ) → live q ≡ true → q < 48) → ContainsAt A.rules r → ContainsAt A.rules r' → keeps live r ≡ true → Tells K ρ (flag_at t) r r' → false ≡ flag_at t p q → (p < 48 → q < 48 → (x y : ℕ) → flag_at t' x y ≡ cond ((eqb x p && eqb y q) || (eqb x q && eqb y p)) true (flag_at t x y)) → Swept K A live ρ (Compared K A live ρ r r') t t' true
     compared_new t' small h h' l tells unmarked marks =
         let on : live p ≡ true = ap live (sym this) ∙ All-get_or (λ x. live x ≡ true) r.children k 0 facing.within (kept_children live r l) in
         let on' : live q ≡ true = ap live (sym other) ∙ facing.other_live in

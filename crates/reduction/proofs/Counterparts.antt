@@ -1,6 +1,6 @@
 -- Marking the children of rules without counterpart, one after another.
 use Rattle.std.proofs.Common.{◌≡◌, ℕ, zero, suc, ◌+◌, ◌-◌, ◌<◌, ◌≤◌, Bool, true, false, cond, ◌&&◌, ◌||◌, eqb, List, [], ◌∷◌, map, length, get_or, take, set, sym, refl, ap, ◌∙◌, ap₂, arith, below_more}
-use Rattle.std.specs.List.{ContainsAt as Has}
+use Rattle.std.specs.List.{ContainsAt}
 use Rattle.std.proofs.lemmas.List.{length-take-le, length-set}
 use Rattle.std.proofs.ByRecursion.{All-get_or}
 use Rattle.kinds.specs.Weights.{Weights}
@@ -37,7 +37,7 @@ counterpart_read stands ranks rules live symbol s s' n k q xs ws r long arity re
 
 module _ {W : Type 0} (K : Weights W) (A : Automaton W) (live : ℕ → Bool) where
   -- the rule r has no counterpart for q in the place k, where it has p
-  module _ (r : Transition W) (k p q : ℕ) (t t' : PairFlags) (has : Has A.rules r) (kept : keeps live r ≡ true) (within : k < length r.children) (this : get_or r.children k 0 ≡ p) (other_live : live q ≡ true) (alone : live_target live (find A.rules r.symbol (set r.children k q)) ≡ false) (small : (q : ℕ) → live q ≡ true → q < 48) (marks : p < 48 → q < 48 → (x y : ℕ) → flag_at t' x y ≡ cond ((eqb x p && eqb y q) || (eqb x q && eqb y p)) true (flag_at t x y)) where
+  module _ (r : Transition W) (k p q : ℕ) (t t' : PairFlags) (has : ContainsAt A.rules r) (kept : keeps live r ≡ true) (within : k < length r.children) (this : get_or r.children k 0 ≡ p) (other_live : live q ≡ true) (alone : live_target live (find A.rules r.symbol (set r.children k q)) ≡ false) (small : (q : ℕ) → live q ≡ true → q < 48) (marks : p < 48 → q < 48 → (x y : ℕ) → flag_at t' x y ≡ cond ((eqb x p && eqb y q) || (eqb x q && eqb y p)) true (flag_at t x y)) where
     this_live : live p ≡ true
     this_live = ap live (sym this) ∙ All-get_or (λ x. live x ≡ true) r.children k 0 within (kept_children live r kept)
 

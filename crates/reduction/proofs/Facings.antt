@@ -1,6 +1,6 @@
 -- Rules that differ in one child place, as lists and by the number of the place; and that nothing is left to mark.
 use Rattle.std.proofs.Common.{◌≡◌, ℕ, suc, ◌<◌, Bool, true, false, List, ◌∷◌, ◌++◌, length, get_or, take, drop, set, Some, None, Option, sym, refl, ap, ◌∙◌, subst, inl, inr, ⊎_elim, arith}
-use Rattle.std.specs.List.{ContainsAt as Has}
+use Rattle.std.specs.List.{ContainsAt}
 use Rattle.std.proofs.lemmas.List.{length-append, length-set, get_or_at, get_or-set_same, get_or-set_other, set_at, set-get_or, set_split, ext_get_or}
 use Rattle.std.proofs.lemmas.Option.{slice_get-get_or}
 use Rattle.std.proofs.ByRecursion.{all-has, all_has_itself}
@@ -31,13 +31,13 @@ one_place xs ys k h long only = ext_get_or 0 (set xs k (get_or ys k 0)) ys (leng
 
 module _ {W : Type 0} (A : Automaton W) (live : ℕ → Bool) where
   -- a rule of the automaton is found by its left side
-  has_found : Sound A → (r : Transition W) → Has A.rules r → find A.rules r.symbol r.children ≡ Some r
+  has_found : Sound A → (r : Transition W) → ContainsAt A.rules r → find A.rules r.symbol r.children ≡ Some r
   has_found sound r h = find_itself A.rules h.0 r sound.single (slice_get-get_or A.rules h.0 r h.1 ∙ ap Some (h.2 r))
 
-  found_has : (s : ℕ) (qs : List ℕ) (r : Transition W) → find A.rules s qs ≡ Some r → Has A.rules r
-  found_has s qs r e = find_all (Has A.rules) A.rules s qs r (all_has_itself A.rules) e
+  found_has : (s : ℕ) (qs : List ℕ) (r : Transition W) → find A.rules s qs ≡ Some r → ContainsAt A.rules r
+  found_has s qs r e = find_all (ContainsAt A.rules) A.rules s qs r (all_has_itself A.rules) e
 
-  pub facing_swapped : Sound A → (r r' : Transition W) (k : ℕ) → Has A.rules r → Has A.rules r' → keeps live r ≡ true → Facing live r r' k → Swapped A live (get_or r.children k 0) (get_or r'.children k 0) r r'
+  pub facing_swapped : Sound A → (r r' : Transition W) (k : ℕ) → ContainsAt A.rules r → ContainsAt A.rules r' → keeps live r ≡ true → Facing live r r' k → Swapped A live (get_or r.children k 0) (get_or r'.children k 0) r r'
   facing_swapped sound r r' k h h' l f =
       let w : Within A.ranks A.states r = all-has (Within A.ranks A.states) A.rules r sound.within h in
       let w' : Within A.ranks A.states r' = all-has (Within A.ranks A.states) A.rules r' sound.within h' in
@@ -84,7 +84,7 @@ module _ {W : Type 0} (A : Automaton W) (live : ℕ → Bool) where
       }
 
   -- a rule whose counterpart for q is not there, or has a target that is not live
-  pub lone_from : Sound A → (r : Transition W) (k q : ℕ) → Has A.rules r → keeps live r ≡ true → k < length r.children → live q ≡ true → live_target live (find A.rules r.symbol (set r.children k q)) ≡ false → Lone A live (get_or r.children k 0) q
+  pub lone_from : Sound A → (r : Transition W) (k q : ℕ) → ContainsAt A.rules r → keeps live r ≡ true → k < length r.children → live q ≡ true → live_target live (find A.rules r.symbol (set r.children k q)) ≡ false → Lone A live (get_or r.children k 0) q
   lone_from sound r k q h l within m none = record {
     symbol = r.symbol;
     before = take k r.children;

@@ -1,6 +1,6 @@
 -- Passes over all rules, and what the two rounds come to.
 use Rattle.std.proofs.Common.{◌≡◌, ℕ, ◌+◌, ◌<◌, ◌≤◌, Bool, true, false, ◌↔◌, List, map, length, get_or, Some, sym, refl, ap, ◌∙◌, subst, below_more}
-use Rattle.std.specs.List.{ContainsAt as Has, slice_get}
+use Rattle.std.specs.List.{ContainsAt, slice_get}
 use Rattle.std.proofs.lemmas.List.{length-map, get_or-map}
 use Rattle.kinds.specs.Weights.{Weights}
 use Rattle.automata.specs.Automata.{Transition, Automaton, Sound}
@@ -18,7 +18,7 @@ use Rattle.reduction.proofs.Facings.{lone_marked, rest_first, rest_second}
 
 -- an element that was read, under a map
 module _ {X Y : Type 0} (f : X → Y) (xs : List X) (i : ℕ) (x : X) (h : i < length xs) (read : x ≡ get_or xs i x) where
-  pub has_mapped : Has (map f xs) (f x)
+  pub has_mapped : ContainsAt (map f xs) (f x)
   has_mapped = (i, rw (length-map xs f) h, λ d. get_or-map f xs i x d h ∙ ap f (sym read))
 
   -- what holds of it holds of every element in its place
@@ -42,7 +42,7 @@ module _ {W : Type 0} (K : Weights W) (A : Automaton W) (live : ℕ → Bool) (�
   to_past Q n t t' t'' b here g h =
       swept_past K A live ρ _ Q _ t t' t'' b (λ below q. below_more (λ k. (r : Transition W) → slice_get A.rules k ≡ Some r → P r t) n below (here q)) g h
 
-  pub to_all : (n : ℕ) (t t' : PairFlags) (b : Bool) → length A.rules ≤ n → SweptTo n t t' b → Swept K A live ρ (λ s. (r : Transition W) → Has A.rules r → P r s) t t' b
+  pub to_all : (n : ℕ) (t t' : PairFlags) (b : Bool) → length A.rules ≤ n → SweptTo n t t' b → Swept K A live ρ (λ s. (r : Transition W) → ContainsAt A.rules r → P r s) t t' b
   to_all n t t' b long g = record {
     grown = g.grown;
     same = g.same;

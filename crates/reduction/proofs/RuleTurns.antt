@@ -1,6 +1,6 @@
 -- Choosing by the child places of one rule, and by one rule after another.
 use Rattle.std.proofs.Common.{◌≡◌, ℕ, ◌+◌, ◌<◌, ◌≤◌, Bool, true, false, List, length, get_or, Some, sym, subst, arith, below_more}
-use Rattle.std.specs.List.{ContainsAt as Has, slice_get}
+use Rattle.std.specs.List.{ContainsAt, slice_get}
 use Rattle.std.proofs.lemmas.List.{length-take, length-map}
 use Rattle.std.proofs.ByRecursion.{All-from_get_or}
 use Rattle.std.proofs.lemmas.Bool.{both_ways, and_parts, and_from}
@@ -104,7 +104,7 @@ module _ {V W : Type 0} (K : Weights W) (stands : V → W) (shape : Shape) (rule
           ),
     )
 
-    pub passing_all : (flags' : List Bool) (work' : List (Place V)) (i : ℕ) → length rules ≤ i → Passing flags' work' i → unset flags ≤ unset flags' → Readiness stands K shape rules life marks work → Choice stands K shape rules life marks flags work → (x : Transition W) → Has A.rules x → LeadsBack (live_in life) flags' flags' x
+    pub passing_all : (flags' : List Bool) (work' : List (Place V)) (i : ℕ) → length rules ≤ i → Passing flags' work' i → unset flags ≤ unset flags' → Readiness stands K shape rules life marks work → Choice stands K shape rules life marks flags work → (x : Transition W) → ContainsAt A.rules x → LeadsBack (live_in life) flags' flags' x
     passing_all flags' work' i long g still ready choice =
         let n = length-map rules (transition stands (ranks_in shape)) in
         has_below (LeadsBack (live_in life) flags' flags') A.rules i (omega arith) ((g.1 ready choice).1 (omega (arith, g.0.fewer)))

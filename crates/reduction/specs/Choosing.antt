@@ -1,6 +1,6 @@
 -- Choosing a factor for each live state, class after class.
 use Rattle.std.specs.Prelude.{◌≡◌, ℕ, ◌+◌, ◌<◌, ◌≤◌, Bool, true, false, cond, List, [], ◌∷◌, length, Some, ◌≢◌, slice_set}
-use Rattle.std.specs.List.{AllByRecursion as All}
+use Rattle.std.specs.List.{AllByRecursion}
 use Rattle.kinds.specs.Weights.{Weights}
 use Rattle.automata.specs.Automata.{Transition, Automaton, find, Sound}
 use Rattle.automata.specs.Contexts.{Context, OverContext, value}
@@ -49,7 +49,7 @@ IsRule stands shape rules rule =
 
 -- the children of a rule of live states are chosen if its target is
 abbrev pub LeadsBack : {W : Type 0} → (ℕ → Bool) → List Bool → List Bool → Transition W → Type 0
-LeadsBack live flags flags' r = keeps live r ≡ true → set_in flags r.target ≡ true → All (λ q. set_in flags' q ≡ true) r.children
+LeadsBack live flags flags' r = keeps live r ≡ true → set_in flags r.target ≡ true → AllByRecursion (λ q. set_in flags' q ≡ true) r.children
 
 -- how many flags are not set
 abbrev pub unset : List Bool → ℕ

@@ -1,6 +1,6 @@
 -- The steps that the two rounds of marking share: pairs that a step may mark, and what it leaves to mark.
 use Rattle.std.specs.Prelude.{◌≡◌, ℕ, ◌<◌, Bool, true, false, cond, ◌⊎◌, List, length, Some, None, Option, ◌≢◌, slice_index, slice_set}
-use Rattle.std.specs.List.{ContainsAt as Has}
+use Rattle.std.specs.List.{ContainsAt}
 use Rattle.kinds.specs.Weights.{Weights}
 use Rattle.automata.specs.Automata.{Transition, Automaton, find, Sound}
 use Rattle.automata.specs.Pushing.{reweighed}
@@ -98,10 +98,10 @@ module _ {W : Type 0} (K : Weights W) where
         keeps live r ≡ true → (k : ℕ) → Facing live r r' k → (slice_index r.children k ≢ slice_index r'.children k) → Tells ρ (flag_at t) r r' → flag_at t (slice_index r.children k) (slice_index r'.children k) ≡ true
 
     abbrev pub ComparedOne : Round W → Transition W → PairFlags → Type 0
-    ComparedOne ρ r t = (r' : Transition W) → Has A.rules r' → Compared ρ r r' t
+    ComparedOne ρ r t = (r' : Transition W) → ContainsAt A.rules r' → Compared ρ r r' t
 
     abbrev pub ComparedAll : Round W → PairFlags → Type 0
-    ComparedAll ρ t = (r : Transition W) → Has A.rules r → ComparedOne ρ r t
+    ComparedAll ρ t = (r : Transition W) → ContainsAt A.rules r → ComparedOne ρ r t
 
     -- the child k of the rule r is marked against q, if r has no counterpart for q
     abbrev pub LoneNoted : Transition W → ℕ → ℕ → PairFlags → Type 0
@@ -115,4 +115,4 @@ module _ {W : Type 0} (K : Weights W) where
     LoneRule r t = (k : ℕ) → LonePlace r k t
 
     abbrev pub LoneAll : PairFlags → Type 0
-    LoneAll t = (r : Transition W) → Has A.rules r → LoneRule r t
+    LoneAll t = (r : Transition W) → ContainsAt A.rules r → LoneRule r t

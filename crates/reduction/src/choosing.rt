@@ -1,7 +1,7 @@
 // Choosing a factor for each live state: for every class of unmarked live states one context that leads them to acceptance, and for each state
 // the weight that it gives there, up to a weight that the class shares.
 ghost use Rattle.std.specs.Prelude.{◌≡◌, ℕ, ◌<◌, ◌≤◌, true, false, not, ◌&&◌, length, Some, slice_index, slice_set};
-ghost use Rattle.std.specs.List.{ContainsAt as Has};
+ghost use Rattle.std.specs.List.{ContainsAt};
 ghost use Rattle.automata.specs.Automata.{Transition, Sound};
 ghost use Rattle.automata.specs.Marking.{DecidesLive, Chosen};
 ghost use Rattle.automata.specs.Merging.{keeps};
@@ -170,7 +170,7 @@ fn choose_pass<W: Kind>(
 ) -> bool
     ensures more { result ≡ true → unset chosen.new < unset chosen.old }
     ensures choice { Readiness W.Kind.stands W.Kind.weights shape.now rules.now life.now marks.now work.old → Choice W.Kind.stands W.Kind.weights shape.now rules.now life.now marks.now chosen.old work.old → Choice W.Kind.stands W.Kind.weights shape.now rules.now life.now marks.now chosen.new work.new }
-    ensures rest { result ≡ false → Readiness W.Kind.stands W.Kind.weights shape.now rules.now life.now marks.now work.old → Choice W.Kind.stands W.Kind.weights shape.now rules.now life.now marks.now chosen.old work.old → (x : Transition W.Weight) → Has (automaton W.Kind.stands shape.now rules.now).rules x → LeadsBack (live_in life.now) chosen.new chosen.new x }
+    ensures rest { result ≡ false → Readiness W.Kind.stands W.Kind.weights shape.now rules.now life.now marks.now work.old → Choice W.Kind.stands W.Kind.weights shape.now rules.now life.now marks.now chosen.old work.old → (x : Transition W.Weight) → ContainsAt (automaton W.Kind.stands shape.now rules.now).rules x → LeadsBack (live_in life.now) chosen.new chosen.new x }
 {
     let before = missing(chosen);
     for i in 0..rules.len() {

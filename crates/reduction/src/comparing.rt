@@ -1,6 +1,6 @@
 // Comparing two rules whose children differ in one place.
 ghost use Rattle.std.specs.Prelude.{◌≡◌, ◌≤◌, true, ◌↔◌, length};
-ghost use Rattle.std.specs.List.{ContainsAt as Has};
+ghost use Rattle.std.specs.List.{ContainsAt};
 ghost use Rattle.automata.specs.Merging.{keeps};
 ghost use Rattle.automata.specs.Pushing.{reweighed};
 ghost use Rattle.pairs.specs.Cells.{flag_at};
@@ -109,7 +109,7 @@ pub(crate) fn compare<W: Kind>(
     work: &[Place<W>],
     marks: &mut PairFlags,
 ) -> bool
-    requires { (Has (automaton W.Kind.stands shape.now rules.now).rules (transition W.Kind.stands (ranks_in shape.now) rule.now)) × ((Has (automaton W.Kind.stands shape.now rules.now).rules (transition W.Kind.stands (ranks_in shape.now) other.now)) × (keeps (set_in live.now) (transition W.Kind.stands (ranks_in shape.now) rule.now) ≡ true)) }
+    requires { (ContainsAt (automaton W.Kind.stands shape.now rules.now).rules (transition W.Kind.stands (ranks_in shape.now) rule.now)) × ((ContainsAt (automaton W.Kind.stands shape.now rules.now).rules (transition W.Kind.stands (ranks_in shape.now) other.now)) × (keeps (set_in live.now) (transition W.Kind.stands (ranks_in shape.now) rule.now) ≡ true)) }
     ensures { Swept W.Kind.weights (automaton W.Kind.stands shape.now rules.now) (set_in live.now) (round_in W.Kind.stands W.Kind.weights weighs work.now) (Compared W.Kind.weights (automaton W.Kind.stands shape.now rules.now) (set_in live.now) (round_in W.Kind.stands W.Kind.weights weighs work.now) (transition W.Kind.stands (ranks_in shape.now) rule.now) (transition W.Kind.stands (ranks_in shape.now) other.now)) marks.old marks.new result }
 {
     let Some(place) = faced(shape, live, rule, other) else {

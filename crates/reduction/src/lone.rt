@@ -1,6 +1,6 @@
 // Marking the children of rules that have no counterpart for another state.
 ghost use Rattle.std.specs.Prelude.{◌≡◌, ℕ, ◌<◌, true, List, map, length, slice_set};
-ghost use Rattle.std.specs.List.{ContainsAt as Has};
+ghost use Rattle.std.specs.List.{ContainsAt};
 ghost use Rattle.automata.specs.Trees.{rank};
 ghost use Rattle.automata.specs.Automata.{find as find_rule};
 ghost use Rattle.automata.specs.Merging.{keeps};
@@ -60,7 +60,7 @@ fn note_lone<W: Kind>(
     other: usize,
     marks: &mut PairFlags,
 )
-    requires { (Has (automaton W.Kind.stands shape.now rules.now).rules (transition W.Kind.stands (ranks_in shape.now) rule.now)) × ((keeps (set_in live.now) (transition W.Kind.stands (ranks_in shape.now) rule.now) ≡ true) × (place < rank (ranks_in shape.now) rule.now.left.symbol)) }
+    requires { (ContainsAt (automaton W.Kind.stands shape.now rules.now).rules (transition W.Kind.stands (ranks_in shape.now) rule.now)) × ((keeps (set_in live.now) (transition W.Kind.stands (ranks_in shape.now) rule.now) ≡ true) × (place < rank (ranks_in shape.now) rule.now.left.symbol)) }
     ensures grown { Grown W.Kind.weights (automaton W.Kind.stands shape.now rules.now) (set_in live.now) round_one marks.old marks.new }
     ensures noted { LoneNoted W.Kind.weights (automaton W.Kind.stands shape.now rules.now) (set_in live.now) (transition W.Kind.stands (ranks_in shape.now) rule.now) place other marks.new }
 {
@@ -85,7 +85,7 @@ fn lone_place<W: Kind>(
     place: usize,
     marks: &mut PairFlags,
 )
-    requires { (Has (automaton W.Kind.stands shape.now rules.now).rules (transition W.Kind.stands (ranks_in shape.now) rule.now)) × ((keeps (set_in live.now) (transition W.Kind.stands (ranks_in shape.now) rule.now) ≡ true) × (place < rank (ranks_in shape.now) rule.now.left.symbol)) }
+    requires { (ContainsAt (automaton W.Kind.stands shape.now rules.now).rules (transition W.Kind.stands (ranks_in shape.now) rule.now)) × ((keeps (set_in live.now) (transition W.Kind.stands (ranks_in shape.now) rule.now) ≡ true) × (place < rank (ranks_in shape.now) rule.now.left.symbol)) }
     ensures grown { Grown W.Kind.weights (automaton W.Kind.stands shape.now rules.now) (set_in live.now) round_one marks.old marks.new }
     ensures noted { LonePlace W.Kind.weights (automaton W.Kind.stands shape.now rules.now) (set_in live.now) (transition W.Kind.stands (ranks_in shape.now) rule.now) place marks.new }
 {
@@ -102,7 +102,7 @@ fn lone_rule<W: Kind>(
     rule: &Rule<W>,
     marks: &mut PairFlags,
 )
-    requires { Has (automaton W.Kind.stands shape.now rules.now).rules (transition W.Kind.stands (ranks_in shape.now) rule.now) }
+    requires { ContainsAt (automaton W.Kind.stands shape.now rules.now).rules (transition W.Kind.stands (ranks_in shape.now) rule.now) }
     ensures grown { Grown W.Kind.weights (automaton W.Kind.stands shape.now rules.now) (set_in live.now) round_one marks.old marks.new }
     ensures noted { LoneRule W.Kind.weights (automaton W.Kind.stands shape.now rules.now) (set_in live.now) (transition W.Kind.stands (ranks_in shape.now) rule.now) marks.new }
 {

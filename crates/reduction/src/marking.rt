@@ -1,5 +1,5 @@
 // Telling live states apart by marking pairs, in two rounds.
-ghost use Rattle.std.specs.List.{ContainsAt as Has};
+ghost use Rattle.std.specs.List.{ContainsAt};
 ghost use Rattle.automata.specs.Automata.{Sound};
 ghost use Rattle.automata.specs.Marking.{DecidesLive, Chosen};
 ghost use Rattle.pairs.specs.Cells.{flag_at};
@@ -26,7 +26,7 @@ fn compare_one<W: Kind>(
     work: &[Place<W>],
     marks: &mut PairFlags,
 ) -> bool
-    requires { Has (automaton W.Kind.stands shape.now rules.now).rules (transition W.Kind.stands (ranks_in shape.now) rule.now) }
+    requires { ContainsAt (automaton W.Kind.stands shape.now rules.now).rules (transition W.Kind.stands (ranks_in shape.now) rule.now) }
     ensures { Swept W.Kind.weights (automaton W.Kind.stands shape.now rules.now) (set_in live.now) (round_in W.Kind.stands W.Kind.weights weighs work.now) (ComparedOne W.Kind.weights (automaton W.Kind.stands shape.now rules.now) (set_in live.now) (round_in W.Kind.stands W.Kind.weights weighs work.now) (transition W.Kind.stands (ranks_in shape.now) rule.now)) marks.old marks.new result }
 {
     let mut marked = false;

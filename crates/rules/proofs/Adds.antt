@@ -1,6 +1,6 @@
 -- The tests of add, one after the other, and the rule that is written.
 use Rattle.std.proofs.Common.{◌≡◌, ℕ, zero, suc, ◌+◌, ◌<◌, ◌≤◌, min, Bool, true, false, not, ◌&&◌, eqb, ltb, leb, List, [], ◌∷◌, ◌++◌, map, length, get_or, take, set, is_some, Some, None, Option, sym, refl, ap, ◌∙◌, le_of_suc-le-suc, arith, length-set}
-use Rattle.std.specs.List.{AllByRecursion as All}
+use Rattle.std.specs.List.{AllByRecursion}
 use Rattle.std.proofs.lemmas.List.{take_more, take_more_set, map_push, length-map, length-take}
 use Rattle.std.proofs.lemmas.Bool.{and_from, and_right, and_parts, ltb-true, leb-false, eqb-true, not-false, true≢false}
 use Rattle.std.proofs.ByRecursion.{All-weaker}
@@ -34,7 +34,7 @@ all_in_fails keep [] i l fails = absurd (omega arith)
 all_in_fails keep (q ∷ qs) zero l fails = ap (λ b. b && all_in keep qs) fails
 all_in_fails keep (q ∷ qs) (suc i) l fails = and_right (keep q) (all_in keep qs) (all_in_fails keep qs i (le_of_suc-le-suc l) fails)
 
-all_in_below : (n : ℕ) (qs : List ℕ) → all_in (λ q. ltb q n) qs ≡ true → All (λ q. q < n) qs
+all_in_below : (n : ℕ) (qs : List ℕ) → all_in (λ q. ltb q n) qs ≡ true → AllByRecursion (λ q. q < n) qs
 all_in_below n [] e = tt
 all_in_below n (q ∷ qs) e =
     let both = and_parts (ltb q n) (all_in (λ p. ltb p n) qs) e in
@@ -50,7 +50,7 @@ module _ {W : Type 0} where
     pub symbol_within : s < length b.content.ranks
     pub rank_is : length qs ≡ rank b.content.ranks s
     pub target_within : t < b.content.states
-    pub children_within : All (λ q. q < b.content.states) qs
+    pub children_within : AllByRecursion (λ q. q < b.content.states) qs
     pub free : find b.content.rules s qs ≡ None
     pub room : length b.content.rules < min b.places 1024
 
@@ -82,7 +82,7 @@ module _ {V W : Type 0} (stands : V → W) (shape : Shape) (memory : List (Rule 
   has_room = omega (arith, is_fine.room, length-map (take count memory) (transition stands (ranks_in shape)), length-take count memory)
 
   -- symbols, states and the number of children are small
-  pub narrow : (s < 256) × ((length qs ≤ 4) × All (λ q. q < 256) qs)
+  pub narrow : (s < 256) × ((length qs ≤ 4) × AllByRecursion (λ q. q < 256) qs)
   narrow = (
     omega (arith, is_fine.symbol_within, ranks_few shape.measure.alphabet),
     (

@@ -1,6 +1,6 @@
 -- Running the entries of a tree list in order gives the run of each entry's tree.
 use Rattle.std.proofs.Common.{◌≡◌, ℕ, ◌+◌, ◌<◌, List, [], ◌∷◌, map, length, get_or, set, Some, sym, refl, ap, ◌∙◌, ap₂, ⊎_elim, arith}
-use Rattle.std.specs.List.{AllByRecursion as All}
+use Rattle.std.specs.List.{AllByRecursion}
 use Rattle.std.proofs.lemmas.Bool.{cases_eq}
 use Rattle.kinds.specs.Weights.{Weights}
 use Rattle.automata.specs.Trees.{Tree, node, none}
@@ -17,7 +17,7 @@ use Rattle.rules.specs.declared.shape.Shape.{Shape}
 use Rattle.rules.specs.Running.{place_run, run_at, row_runs}
 use Rattle.rules.specs.Shapes.{ranks_in, automaton}
 
-pub map_same : {X : Type 0} (f g : ℕ → X) (i : ℕ) (cs : List ℕ) → ((k : ℕ) → k < i → f k ≡ g k) → All (λ c. c < i) cs → map f cs ≡ map g cs
+pub map_same : {X : Type 0} (f g : ℕ → X) (i : ℕ) (cs : List ℕ) → ((k : ℕ) → k < i → f k ≡ g k) → AllByRecursion (λ c. c < i) cs → map f cs ≡ map g cs
 map_same f g i [] same all = refl
 map_same f g i (c ∷ cs) same all = ap₂ (λ x xs. x ∷ xs) (same c all.0) (map_same f g i cs same all.1)
 

@@ -1,6 +1,6 @@
 // Adding a rule to the rules of a memory.
 ghost use Rattle.std.specs.Prelude.{◌≡◌, ◌+◌, ◌<◌, ◌≤◌, min, ◌&&◌, length, take, nat_le, nat_lt, slice_set};
-ghost use Rattle.std.specs.List.{AllByRecursion as All};
+ghost use Rattle.std.specs.List.{AllByRecursion};
 ghost use Rattle.automata.specs.Merging.{all_in};
 ghost use Rattle.trees.specs.Refusals.{first_met, checks, Answers};
 ghost use Rattle.rules.specs.Books.{add_checks, added, holding};
@@ -86,7 +86,7 @@ fn memory_refusal<W: Kind>(
 
 // The left side with these states in its first places, and 0 in the others.
 fn left_side(symbol: usize, children: &[usize]) -> LeftSide
-    requires { (symbol < 256) × ((length children.now ≤ 4) × (All (λ q. q < 256) children.now)) }
+    requires { (symbol < 256) × ((length children.now ≤ 4) × (AllByRecursion (λ q. q < 256) children.now)) }
     ensures symbol { result.symbol ≡ symbol }
     ensures children { take (length children.now) result.children ≡ children.now }
 {

@@ -1,6 +1,6 @@
 -- The answer of a comparison, by the books of the two tables.
 use Rattle.std.proofs.Common.{◌≡◌, ℕ, ◌+◌, ◌<◌, ◌≤◌, true, false, List, length, get_or, take, Ok, Err, Result, sym, refl, ap, ◌∙◌, subst, ⊎_elim, arith}
-use Rattle.std.specs.List.{ContainsAt as Has}
+use Rattle.std.specs.List.{ContainsAt}
 use Rattle.std.proofs.lemmas.Bool.{cases_Bool}
 use Rattle.kinds.specs.Weights.{Weights}
 use Rattle.automata.specs.Trees.{Tree, Over}
@@ -49,7 +49,7 @@ module _ {W : Type 0} (K : Weights W) (A B C D : Automaton W) (p : Alike K A C) 
       record {
         is_list = subst (λ (ranks : List ℕ). IsTreeList ranks (take k list')) back c.is_list;
         witness = subst (λ (ranks : List ℕ). Witness K A B (tree_of ranks (take k list'))) back (witness_alike (tree_of C.ranks (take k list')) one c.witness);
-        used = subst (λ (ranks : List ℕ). (i : ℕ) → i + 1 < k → (j : ℕ) × (i < j) × (j < k) × Has (children_of ranks (get_or list' j blank)) i) back c.used;
+        used = subst (λ (ranks : List ℕ). (i : ℕ) → i + 1 < k → (j : ℕ) × (i < j) × (j < k) × ContainsAt (children_of ranks (get_or list' j blank)) i) back c.used;
         beyond = c.beyond;
         same_length = c.same_length;
       }

@@ -1,6 +1,6 @@
 -- The tree of an entry is its symbol over the trees of its children.
 use Rattle.std.proofs.Common.{◌≡◌, ℕ, zero, suc, ◌+◌, ◌<◌, ◌≤◌, List, [], ◌∷◌, ◌++◌, length, get_or, take, drop, sym, refl, ap, ◌∙◌, arith}
-use Rattle.std.specs.List.{AllByRecursion as All}
+use Rattle.std.specs.List.{AllByRecursion}
 use Rattle.std.proofs.lemmas.List.{length-append, length-take, length-take-le, get_or_append_left, get_or_push, get_or-take, drop_more, take-append-drop}
 use Rattle.std.proofs.ByRecursion.{All-from_get_or}
 use Rattle.automata.specs.Trees.{Tree, node, none, ◌▹◌, size, rank, Over, Overs}
@@ -35,12 +35,12 @@ module _ (ranks : List ℕ) where
       ∙ ap (λ ts. get_or ts k d) (grown_append [] (take i ns) (drop i ns))
       ∙ grown_keeps (trees_of ranks (take i ns)) (drop i ns) k d (omega (arith, trees_length (take i ns), length-take-le i ns h))
 
-  pub row_front : (ts us : List Tree) (i : ℕ) (cs : List ℕ) → ((k : ℕ) → k < i → get_or ts k (node 0 none) ≡ get_or us k (node 0 none)) → All (λ c. c < i) cs → row_of ts cs ≡ row_of us cs
+  pub row_front : (ts us : List Tree) (i : ℕ) (cs : List ℕ) → ((k : ℕ) → k < i → get_or ts k (node 0 none) ≡ get_or us k (node 0 none)) → AllByRecursion (λ c. c < i) cs → row_of ts cs ≡ row_of us cs
   row_front ts us i [] same all = refl
   row_front ts us i (c ∷ cs) same all = λ j. same c all.0 j ▹ row_front ts us i cs same all.1 j
 
   -- the entry i, all of whose children have smaller numbers
-  pub tree_entry : (ns : List Node) (i : ℕ) → i < length ns → All (λ c. c < i) (children_of ranks (get_or ns i blank)) → tree_at ranks ns i ≡ node (get_or ns i blank).symbol (row_of (trees_of ranks ns) (children_of ranks (get_or ns i blank)))
+  pub tree_entry : (ns : List Node) (i : ℕ) → i < length ns → AllByRecursion (λ c. c < i) (children_of ranks (get_or ns i blank)) → tree_at ranks ns i ≡ node (get_or ns i blank).symbol (row_of (trees_of ranks ns) (children_of ranks (get_or ns i blank)))
   tree_entry ns i h all =
       let n = get_or ns i blank in
       let before = trees_of ranks (take i ns) in
@@ -54,14 +54,14 @@ module _ (ranks : List ℕ) where
       ∙ ap (node n.symbol) (row_front before (trees_of ranks ns) i (children_of ranks n) (λ k l. sym (trees_front ns i k (node 0 none) (omega arith) l)) all)
 
   -- the children of a good entry have smaller numbers
-  pub children_earlier : (i : ℕ) (n : Node) → rank ranks n.symbol ≤ 4 → Good ranks i n → All (λ c. c < i) (children_of ranks n)
+  pub children_earlier : (i : ℕ) (n : Node) → rank ranks n.symbol ≤ 4 → Good ranks i n → AllByRecursion (λ c. c < i) (children_of ranks n)
   children_earlier i n small good =
       All-from_get_or (λ c. c < i) (children_of ranks n) 0 (λ k h.
       let low : k < rank ranks n.symbol = omega (arith, length-take (rank ranks n.symbol) n.children) in
       rw (get_or-take (rank ranks n.symbol) n.children k 0 low) ((good.places k (omega arith)).earlier low))
 
   -- a row of trees over the alphabet, as many as there are numbers
-  row_over : (ts : List Tree) (i : ℕ) (cs : List ℕ) → ((k : ℕ) → k < i → Over ranks (get_or ts k (node 0 none))) → All (λ c. c < i) cs → Overs ranks (row_of ts cs)
+  row_over : (ts : List Tree) (i : ℕ) (cs : List ℕ) → ((k : ℕ) → k < i → Over ranks (get_or ts k (node 0 none))) → AllByRecursion (λ c. c < i) cs → Overs ranks (row_of ts cs)
   row_over ts i [] over all = tt
   row_over ts i (c ∷ cs) over all = (over c all.0, row_over ts i cs over all.1)
 
