@@ -1,5 +1,5 @@
 -- The kind that a page names, and the answer by it.
-use Rattle.std.proofs.Common.{◌≡◌, ℕ, List, drop, Ok, Err, Result, Vec}
+use Rattle.std.proofs.Common.{ℕ, List, drop, Ok, Err, Result, Vec}
 use Rattle.kinds.specs.Marks.{marks}
 use Rattle.kinds.specs.Residues.{residues}
 use Rattle.kinds.specs.Costs.{costs}

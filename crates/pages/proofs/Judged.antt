@@ -1,5 +1,5 @@
 -- From what the calls of two tables promise of their histories to the answer.
-use Rattle.std.proofs.Common.{◌≡◌, ℕ, ◌+◌, ◌*◌, ◌<◌, ◌≤◌, List, [], ◌∷◌, ◌++◌, length, get_or, take, ℤ, Ok, Err, vec_items, Option, Result, Vec, sym, refl, ap, ◌∙◌, subst, ap₂, inl, inr, ⊎_elim, mul-le-mul, arith}
+use Rattle.std.proofs.Common.{◌≡◌, ℕ, ◌+◌, ◌*◌, ◌<◌, ◌≤◌, List, [], ◌∷◌, ◌++◌, length, get_or, take, ℤ, Ok, Err, vec_items, Option, Result, Vec, sym, refl, ap, ◌∙◌, subst, ap₂, inr, ⊎_elim, mul-le-mul, arith}
 use lib.Seq.{take-append-le}
 use Rattle.std.specs.Option.{option_map}
 use Rattle.std.specs.List.{ContainsAt}
@@ -7,13 +7,13 @@ use Rattle.std.proofs.lemmas.List.{length-take, get_or-take, get_or_past, take_a
 use Rattle.std.proofs.lemmas.Bool.{cases_lt}
 use Rattle.kinds.specs.Weights.{Weights}
 use Rattle.automata.specs.Trees.{rank}
-use Rattle.automata.specs.Runs.{weight_of, Alike}
+use Rattle.automata.specs.Runs.{weight_of}
 use Rattle.automata.proofs.Alikes.{alike_sym, alike_trans}
 use Rattle.trees.specs.declared.node.Node.{Node}
 use Rattle.trees.specs.declared.refusal.Refusal.{Refusal}
 use Rattle.trees.specs.declared.refusal.Refusal.TheVariants.{Alphabets, Short}
 use Rattle.trees.specs.Lists.{blank, children_of, IsTreeList, bad_list, tree_of}
-use Rattle.trees.specs.Refusals.{when, FirstMet, Answers}
+use Rattle.trees.specs.Refusals.{when, Answers}
 use Rattle.trees.proofs.Refusals.{list_fine}
 use Rattle.comparison.specs.declared.comparison.Comparison.{Comparison}
 use Rattle.comparison.specs.declared.comparison.Comparison.TheVariants.{Same, Different}

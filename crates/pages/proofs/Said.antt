@@ -6,7 +6,7 @@ use Rattle.layout.specs.declared.line.Line.{Line}
 use Rattle.layout.specs.declared.line.Line.TheVariants.{Kind, Table, Accept, Rule, End}
 use Rattle.layout.specs.Answers.{ReadsNumbers}
 use Rattle.layout.specs.Fields.{fields}
-use Rattle.layout.specs.Lines.{Entry, kind, table, accept, rule, end, Fits, Says, says_kind, says_table, says_accept, says_rule, says_end}
+use Rattle.layout.specs.Lines.{Entry, table, accept, rule, end, Fits, Says, says_kind, says_table, says_accept, says_rule, says_end}
 use Rattle.pages.specs.declared.fault.Fault.TheVariants.{Layout}
 use Rattle.pages.specs.declared.trouble.Trouble.{Trouble}
 use Rattle.pages.specs.Reading.{Entered, EnteredLine}

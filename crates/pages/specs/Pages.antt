@@ -1,5 +1,5 @@
 -- What a page spells, and its first fault.
-use Rattle.std.specs.Prelude.{◌≡◌, ℕ, ◌+◌, ◌≤◌, List, [], length, ◌≢◌}
+use Rattle.std.specs.Prelude.{ℕ, ◌+◌, ◌≤◌, List, [], length, ◌≢◌}
 use Rattle.kinds.specs.Weights.{Weights}
 use Rattle.kinds.specs.declared.marks.Marks.{Marks}
 use Rattle.kinds.specs.declared.residue.Residue.{Residue}

@@ -1,4 +1,4 @@
-use Rattle.std.proofs.Common.{◌≤◌, length, arith}
+use Rattle.std.proofs.Common.{length}
 use Rattle.tables.specs.Images.{closed_holds}
 use Rattle.pages.proofs.Judged.{weighed_code, weighed_never}
 use Rattle.pages.proofs.judging.weigh_code.Goals as goal
