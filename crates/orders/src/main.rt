@@ -16,6 +16,7 @@ use fault::Fault;
 use reading::parse;
 use report::print_report;
 use std::io;
+use std::process::ExitCode;
 use table::weigh_both;
 
 fn run(rt: &HostRuntime) -> Result<(), Fault> {
@@ -36,10 +37,12 @@ fn run(rt: &HostRuntime) -> Result<(), Fault> {
     Ok(())
 }
 
-fn main(rt: HostRuntime) -> Result<(), Fault> {
-    let result = run(&rt);
-    if let Err(fault) = &result {
-        let _ = eprintln!(rt; "orders: {fault}");
+fn main(rt: HostRuntime) -> ExitCode {
+    match run(&rt) {
+        Ok(()) => ExitCode::SUCCESS,
+        Err(fault) => {
+            let _ = eprintln!(rt; "orders: {fault}");
+            ExitCode::FAILURE
+        }
     }
-    result
 }

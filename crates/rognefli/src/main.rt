@@ -6,6 +6,7 @@ mod fault;
 use fault::Fault;
 use pages::answer;
 use std::io::{Read, Write};
+use std::process::ExitCode;
 
 fn run(rt: &HostRuntime) -> Result<(), Fault> {
     let heap = rt.alloc();
@@ -16,10 +17,12 @@ fn run(rt: &HostRuntime) -> Result<(), Fault> {
     Ok(())
 }
 
-fn main(rt: HostRuntime) -> Result<(), Fault> {
-    let result = run(&rt);
-    if let Err(fault) = &result {
-        let _ = eprintln!(rt; "rognefli: {fault}");
+fn main(rt: HostRuntime) -> ExitCode {
+    match run(&rt) {
+        Ok(()) => ExitCode::SUCCESS,
+        Err(fault) => {
+            let _ = eprintln!(rt; "rognefli: {fault}");
+            ExitCode::FAILURE
+        }
     }
-    result
 }

@@ -9,6 +9,7 @@ mod round;
 use fault::Fault;
 use form::Form;
 use round::round;
+use std::process::ExitCode;
 
 // Forms at the limits of tables: 48 states, up to 32 symbols, up to 1,024 rules, and ranks 1, 2 and 4.
 fn run(rt: &HostRuntime) -> Result<(), Fault> {
@@ -54,10 +55,12 @@ fn run(rt: &HostRuntime) -> Result<(), Fault> {
     )
 }
 
-fn main(rt: HostRuntime) -> Result<(), Fault> {
-    let result = run(&rt);
-    if let Err(fault) = &result {
-        let _ = eprintln!(rt; "rounds: {fault}");
+fn main(rt: HostRuntime) -> ExitCode {
+    match run(&rt) {
+        Ok(()) => ExitCode::SUCCESS,
+        Err(fault) => {
+            let _ = eprintln!(rt; "rounds: {fault}");
+            ExitCode::FAILURE
+        }
     }
-    result
 }

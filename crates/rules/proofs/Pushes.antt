@@ -42,9 +42,9 @@ module _ {W : Type 0} (K : Weights W) (q : ℕ) where
       at true = refl
       at false = sym (inverse_one K)
 
-  pub pushed_is : (w f v r : W) (t n m : ℕ) (ps : List ℕ) → r ≡ K.times v (at_places K q (K.inverse f) (take n ps)) → v ≡ K.times w (at_state K q f t) → n ≡ m → r ≡ K.times (K.times w (at_state K q f t)) (undone K (at_state K q f) (take m ps))
-  pushed_is w f v r t n m ps e1 e2 e3 =
-      e1 ∙ (λ i. K.times (e2 i) (at_places K q (K.inverse f) (take (e3 i) ps))) ∙ ap (K.times (K.times w (at_state K q f t))) (places_undo f (take m ps))
+  pub pushed_is : (w f v b r : W) (t u n m : ℕ) (ps : List ℕ) → r ≡ K.times v (at_places K q b (take n ps)) → v ≡ K.times w (at_state K q f u) → u ≡ t → b ≡ K.inverse f → n ≡ m → r ≡ K.times (K.times w (at_state K q f t)) (undone K (at_state K q f) (take m ps))
+  pushed_is w f v b r t u n m ps e1 e2 e3 e4 e5 =
+      e1 ∙ (λ i. K.times ((e2 ∙ ap (λ x. K.times w (at_state K q f x)) e3) i) (at_places K q (e4 i) (take (e5 i) ps))) ∙ ap (K.times (K.times w (at_state K q f t))) (places_undo f (take m ps))
 
 module _ {V W : Type 0} (K : Weights W) (stands : V → W) (ranks : List ℕ) (q : ℕ) (f : W) where
   pub pushed_none : (xs : List (Rule V)) → PushedTo K stands ranks q f xs xs 0

@@ -1,5 +1,4 @@
 // Known weights, and weighing at its limits.
-use crate::places::{count_of, marked};
 use crate::{Answer, answer_of, chain, doubling, fork, forks, leaf, over};
 use kinds::{Cost, Kind, Marks, Residue};
 use rules::{Measure, Place, Rule};
@@ -87,6 +86,17 @@ fn weigh_in(
     answer_of(table.weigh(list, &mut work[0..places]))
 }
 
+// How many places hold a node with this symbol.
+fn count_of(symbol: usize, work: &[Place<Residue>]) -> usize {
+    let mut count = 0usize;
+    for place in work {
+        if place.node.symbol == symbol {
+            count = count.saturating_add(1);
+        }
+    }
+    count
+}
+
 #[test]
 fn refused_weighings(rt: HostRuntime) -> Result<(), Fail> {
     let mut measure = Measure::fresh();
@@ -95,7 +105,14 @@ fn refused_weighings(rt: HostRuntime) -> Result<(), Fail> {
     let mut draft = Draft::<Residue>::open(&measure, memory.as_mut_slice());
     chain(&mut draft, Residue::read(4)?, Residue::read(8)?)?;
     let mut table = draft.close();
-    let mut work = vec![in rt.alloc(); marked(77); 2]?;
+    // places that no call of weigh leaves behind
+    let mark = Place {
+        node: leaf(77),
+        first: None,
+        second: None,
+        mark: 0,
+    };
+    let mut work = vec![in rt.alloc(); mark; 2]?;
     // the child of the last entry, the places, the answer, and how many marks are left:
     // the list comes before the work list, a refused call writes nothing, and the table is as before
     let cases = [
