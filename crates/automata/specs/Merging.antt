@@ -1,5 +1,6 @@
 -- Dropping states, and merging by a grouping: a class and a factor for each state that stays.
 use Rattle.std.specs.Prelude.{◌≡◌, ℕ, zero, suc, ◌<◌, Bool, true, false, not, ◌&&◌, ◌||◌, ◌↔◌, List, [], ◌∷◌, ◌++◌, map, Some, filter, ◌==◌}
+use Rattle.std.specs.List.{list_all}
 use Rattle.kinds.specs.Weights.{Weights}
 use Rattle.automata.specs.Automata.{Transition, Automaton, fits_left, find, Sound}
 use Rattle.automata.specs.Runs.{Alike}
@@ -7,8 +8,7 @@ use Rattle.automata.specs.Contexts.{Live}
 use Rattle.automata.specs.Pushing.{reweighed}
 
 abbrev pub all_in : (ℕ → Bool) → List ℕ → Bool
-all_in keep [] = true
-all_in keep (q ∷ qs) = keep q && all_in keep qs
+all_in keep qs = list_all keep qs
 
 -- all states of the rule are kept
 abbrev pub keeps : {W : Type 0} → (ℕ → Bool) → Transition W → Bool

@@ -1,5 +1,6 @@
 // Small tables drawn from a number, and variations of them.
-use crate::number_of;
+use crate::lines::{measured, with_table};
+use crate::numbered;
 use kinds::Kind;
 use std::process::Abort;
 use std::test::*;
@@ -7,6 +8,13 @@ use tables::{Closed, Draft};
 
 // The ranks of every drawn table.
 pub const RANKS: [usize; 4] = [0, 0, 1, 2];
+
+// The codes of four weights, for each kind. The costs are a quarter of the range apart.
+pub const MARKS: [i64; 4] = [1; 4];
+
+pub const RESIDUES: [i64; 4] = [1, 16, 256, 241];
+
+pub const COSTS: [i64; 4] = [0, 1073741824, -2147483648, -1073741824];
 
 // How many times a drawn table is offered a rule.
 const ATTEMPTS: usize = 14;
@@ -36,7 +44,7 @@ impl Dice {
 }
 
 // How a table differs from the one that is drawn. Its states are numbered in a circle, from `turn` on.
-#[derive(Clone, Copy)]
+#[derive(Clone, Copy, Default)]
 pub struct Variation {
     pub turn: usize,
     // a state that has a copy, with the same rules and acceptance
@@ -47,19 +55,6 @@ pub struct Variation {
     pub skewed: Option<usize>,
     // a state whose acceptance is the opposite
     pub flipped: Option<usize>,
-}
-
-impl Variation {
-    pub fn none() -> Variation {
-        Variation {
-            turn: 0,
-            copied: None,
-            omitted: None,
-            changed: None,
-            skewed: None,
-            flipped: None,
-        }
-    }
 }
 
 // An attempt at a rule, with the place of its weight in the list of weights.
@@ -87,29 +82,30 @@ fn draw_attempt(dice: &mut Dice, number: usize, states: usize) -> Attempt {
     }
 }
 
-// A table to be drawn: its seed, how many states it has without a copy, and how it differs from the one that the seed gives.
+// A table to be drawn: its seed, how many states it has without a copy, the codes of its weights, and how it differs from the one that the
+// seed gives.
 #[derive(Clone, Copy)]
 pub struct Drawing {
     seed: usize,
     states: usize,
+    codes: [i64; 4],
     variation: Variation,
 }
 
 impl Drawing {
-    pub fn new(seed: usize, variation: Variation) -> Drawing {
+    pub fn new(seed: usize, codes: [i64; 4], variation: Variation) -> Drawing {
         Drawing {
             seed,
             states: Dice::new(seed).below(4).saturating_add(1),
+            codes,
             variation,
         }
     }
 
     // How many states there are with the copy, which is the last.
     pub fn states(&self) -> usize {
-        match self.variation.copied {
-            Some(_) => self.states.saturating_add(1),
-            None => self.states,
-        }
+        let copies = usize::from(self.variation.copied.is_some());
+        self.states.saturating_add(copies)
     }
 
     // The number of a state.
@@ -143,20 +139,15 @@ impl Drawing {
     }
 
     // The weight of an attempt, at children that are copies or not.
-    fn weight<W: Kind>(
-        &self,
-        attempt: &Attempt,
-        copies: bool,
-        codes: &[i64; 4],
-    ) -> Result<W, Fail> {
+    fn weight<W: Kind>(&self, attempt: &Attempt, copies: bool) -> Result<W, Fail> {
         let number = Some(attempt.number);
         let other = self.variation.changed == number || copies && self.variation.skewed == number;
         let place = if other {
-            attempt.weight.wrapping_add(1) % 4
+            attempt.weight.wrapping_add(1)
         } else {
-            attempt.weight % 4
+            attempt.weight
         };
-        Ok(W::read(codes[place])?)
+        Ok(W::read(self.codes[place % 4])?)
     }
 
     // Offers the rule of an attempt, at the states and at their copies; a left side that is taken keeps its rule.
@@ -165,7 +156,6 @@ impl Drawing {
         rt: &impl Abort,
         draft: &mut Draft<'_, W>,
         attempt: &Attempt,
-        codes: &[i64; 4],
     ) -> Result<(), Fail> {
         let [left, right] = attempt.children;
         for (k, on_left, on_right) in [
@@ -175,50 +165,50 @@ impl Drawing {
             (1, true, true),
         ] {
             let children = [self.copy_of(left, on_left), self.copy_of(right, on_right)];
+            let children = match attempt.symbol {
+                0 | 1 => &[],
+                2 => &children[..1],
+                _ => &children,
+            };
             let odd = attempt.number.wrapping_add(k) % 2 == 1;
             let target = self.copy_of(attempt.target, odd);
-            let weight = self.weight::<W>(attempt, on_left || on_right, codes)?;
-            let rank = if attempt.symbol < 2 {
-                0
-            } else {
-                attempt.symbol.wrapping_sub(1).min(2)
-            };
-            let number = number_of(draft.add(attempt.symbol, &children[0..rank], target, weight));
-            assert!(rt; number == 0 || number == 6);
+            let weight = self.weight::<W>(attempt, on_left || on_right)?;
+            let answer = numbered(draft.add(attempt.symbol, children, target, weight));
+            assert!(rt; matches!(answer, Ok(()) | Err(6)));
         }
         Ok(())
     }
 
     // Enters the accepting states and the rules.
-    pub fn fill<W: Kind>(
-        &self,
-        rt: &impl Abort,
-        draft: &mut Draft<'_, W>,
-        codes: &[i64; 4],
-    ) -> Result<(), Fail> {
+    fn fill<W: Kind>(&self, rt: &impl Abort, draft: &mut Draft<'_, W>) -> Result<(), Fail> {
         let mut dice = Dice::new(self.seed);
         dice.below(4);
         self.accept(draft, &mut dice)?;
         for number in 0..ATTEMPTS {
             let attempt = draw_attempt(&mut dice, number, self.states);
             if self.variation.omitted != Some(number) {
-                self.offer(rt, draft, &attempt, codes)?;
+                self.offer(rt, draft, &attempt)?;
             }
         }
         Ok(())
     }
 
+    // Draws the table, and hands it on.
+    pub fn with_table<W, T, F>(&self, rt: &(impl Abort + AllocGlobal), then: F) -> Result<T, Fail>
+    where
+        W: Kind + Clone,
+        F: FnOnce(&mut Closed<'_, W>) -> Result<T, Fail>,
+        requires { F.IsAlwaysCallable then }
+    {
+        let measure = measured(&RANKS, self.states())?;
+        with_table(rt.alloc(), &measure, 56, |draft| self.fill(rt, draft), then)
+    }
+
     // Pushes at every state that is not accepting.
-    pub fn push<W: Kind>(
-        &self,
-        rt: &impl Abort,
-        table: &mut Closed<'_, W>,
-        codes: &[i64; 4],
-    ) -> Result<(), Fail> {
+    pub fn push<W: Kind>(&self, rt: &impl Abort, table: &mut Closed<'_, W>) -> Result<(), Fail> {
         for q in 0..self.states() {
-            let factor = W::read(codes[self.seed.wrapping_add(q) % 4])?;
-            let number = number_of(table.push(q, factor));
-            assert!(rt; number == 0 || number == 9);
+            let factor = W::read(self.codes[self.seed.wrapping_add(q) % 4])?;
+            assert!(rt; matches!(numbered(table.push(q, factor)), Ok(()) | Err(9)));
         }
         Ok(())
     }

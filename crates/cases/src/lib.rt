@@ -2,14 +2,14 @@
 #![tactic(auto)]
 
 ghost use Rattle.std.specs.Prelude.{◌≡◌, ◌+◌, [], ◌∷◌, IfOk, vec_len};
-ghost use Rattle.cases.specs.Answered.{done_number, answer};
 
 use kinds::Kind;
-use rules::Weighing;
 use std::alloc::{AllocError, Global};
+use std::iter;
 use tables::Draft;
 use trees::{Node, Refusal};
 
+mod answers;
 #[cfg(test)]
 mod drawing;
 #[cfg(test)]
@@ -21,42 +21,7 @@ mod tests;
 #[cfg(test)]
 mod witnesses;
 
-// What a call of weigh answers, with a weight by its code and a refusal by its number.
-#[derive(Clone, Copy, PartialEq, Eq, Debug)]
-pub enum Answer {
-    NoRun,
-    Ended(usize),
-    Weighs(usize, i64),
-    Refused(u8),
-}
-
-pub fn answer_of<W: Kind>(res: Result<Weighing<W>, Refusal>) -> Answer
-    ensures { result ≡ answer (λ v. W.Kind.weights.code (W.Kind.stands v)) res }
-{
-    match res {
-        Ok(Weighing::NoRun) => Answer::NoRun,
-        Ok(Weighing::Ended { state }) => Answer::Ended(state),
-        Ok(Weighing::Weighs { state, weight }) => Answer::Weighs(state, weight.code()),
-        Err(refusal) => Answer::Refused(refusal.number()),
-    }
-}
-
-// 0 for a call that is done, and else the number of its refusal.
-pub fn number_of(res: Result<(), Refusal>) -> u8
-    ensures { result ≡ done_number res }
-{
-    match res {
-        Ok(()) => 0,
-        Err(refusal) => refusal.number(),
-    }
-}
-
-// The rules 0 → 0 / low and 1(0) → 1 / high, with state 1 accepting.
-pub fn chain<W: Kind>(draft: &mut Draft<'_, W>, low: W, high: W) -> Result<(), Refusal> {
-    draft.accept(1)?;
-    draft.add(0, &[], 0, low)?;
-    draft.add(1, &[0], 1, high)
-}
+pub use answers::{Answer, answer_of, numbered};
 
 // The rules 0 → 0 / leaf and 1(0, 0) → 0 / fork, with state 0 accepting.
 pub fn forks<W: Kind>(draft: &mut Draft<'_, W>, leaf: W, fork: W) -> Result<(), Refusal> {
@@ -65,41 +30,47 @@ pub fn forks<W: Kind>(draft: &mut Draft<'_, W>, leaf: W, fork: W) -> Result<(), 
     draft.add(1, &[0, 0], 0, fork)
 }
 
+pub fn node(symbol: usize, children: [usize; 4]) -> Node
+    ensures { result ≡ record { symbol = symbol; children = children } }
+{
+    Node { symbol, children }
+}
+
 pub fn leaf(symbol: usize) -> Node
     ensures { result ≡ record { symbol = symbol; children = 0 ∷ 0 ∷ 0 ∷ 0 ∷ [] } }
 {
-    Node {
-        symbol,
-        children: [0; 4],
-    }
+    node(symbol, [0; 4])
 }
 
 pub fn over(symbol: usize, child: usize) -> Node
     ensures { result ≡ record { symbol = symbol; children = child ∷ 0 ∷ 0 ∷ 0 ∷ [] } }
 {
-    Node {
-        symbol,
-        children: [child, 0, 0, 0],
-    }
+    node(symbol, [child, 0, 0, 0])
 }
 
 pub fn fork(symbol: usize, left: usize, right: usize) -> Node
     ensures { result ≡ record { symbol = symbol; children = left ∷ right ∷ 0 ∷ 0 ∷ [] } }
 {
-    Node {
-        symbol,
-        children: [left, right, 0, 0],
-    }
+    node(symbol, [left, right, 0, 0])
 }
 
-// A leaf 0, and then entries 1(k, k), each over the entry before it twice: a full tree of that height.
+// A leaf 0, and then an entry over each entry before it, which is given by the number of that one.
+pub fn stack<F: FnMut(usize) -> Node>(
+    heap: Global,
+    height: usize,
+    entry: F,
+) -> Result<Vec<Node>, AllocError>
+    requires { (state : F) (k : _) → F.pre state k }
+    ensures { IfOk result (λ v. vec_len v ≡ height + 1) }
+{
+    iter::once(leaf(0))
+        .chain((0..height).map(entry))
+        .collect(heap)
+}
+
+// Entries 1(k, k) over a leaf 0, each over the entry before it twice: a full tree of that height.
 pub fn doubling(heap: Global, height: usize) -> Result<Vec<Node>, AllocError>
     ensures { IfOk result (λ v. vec_len v ≡ height + 1) }
 {
-    let mut list = Vec::new(heap);
-    list.push(leaf(0))?;
-    for k in 0..height {
-        list.push(fork(1, k, k))?;
-    }
-    Ok(list)
+    stack(heap, height, |k| fork(1, k, k))
 }

@@ -1,4 +1,5 @@
 -- Planting access trees, one for each state in the order of their discovery.
+use Rattle.liveness.specs.Reaching.{rule_of}
 use Rattle.std.proofs.Common.{◌≡◌, ℕ, ◌+◌, ◌<◌, ◌≤◌, ◌⊎◌, List, [], ◌∷◌, ◌++◌, map, length, get_or, take, set, replicate, Some, sym, refl, ap, ◌∙◌, subst, ap₂, ⊎_elim, arith}
 use Rattle.std.specs.List.{ContainsAt, AllByRecursion, slice_get}
 use Rattle.std.proofs.ByRecursion.{All-weaker, All-map, has_push_cases}
@@ -14,12 +15,12 @@ use Rattle.trees.proofs.Entries.{children_earlier}
 use Rattle.trees.proofs.Ranks.{rank_small}
 use Rattle.rules.specs.declared.place.Place.{Place}
 use Rattle.rules.specs.declared.rule.Rule.{Rule}
-use Rattle.rules.specs.declared.shape.Shape.{Shape}
+use Rattle.rules.specs.declared.table.Table.{Table}
 use Rattle.rules.specs.declared.side.Side.{Side}
 use Rattle.rules.specs.Running.{run_at}
-use Rattle.rules.specs.Shapes.{ranks_in, transition, automaton}
-use Rattle.liveness.specs.declared.reach.Reach.{Reach}
-use Rattle.liveness.specs.Reaching.{Derived, Reached, children_in}
+use Rattle.rules.specs.Shapes.{ranks_in, children_in, transition, automaton_of}
+use Rattle.liveness.specs.Listings.{Reach}
+use Rattle.liveness.specs.Reaching.{Derived, Reached}
 use Rattle.liveness.proofs.Reaches.{all_nth, find_itself}
 use Rattle.comparison.specs.Forest.{nodes, tree_in, Forest}
 use Rattle.comparison.proofs.Plants.{newest_tree}
@@ -68,54 +69,54 @@ pub record Planting {V W : Type 0} (K : Weights W) (stands : V → W) (A B : Aut
   pub enters : Enters stands side (ContainsAt (take i R.order)) work (len + i) entries
 
 -- two tables over one alphabet, of which one is meant
-module _ {V W : Type 0} (K : Weights W) (stands : V → W) (first second : Shape) (first_rules second_rules : List (Rule V)) (alphabet : ranks_in first ≡ ranks_in second) (side : Side) where
+module _ {V W : Type 0} (K : Weights W) (stands : V → W) (first second : Table V) (alphabet : ranks_in first.shape.now ≡ ranks_in second.shape.now) (side : Side) where
   abbrev pub A : Automaton W
-  A = automaton stands first first_rules
+  A = automaton_of stands first
 
   abbrev pub B : Automaton W
-  B = automaton stands second second_rules
+  B = automaton_of stands second
 
   abbrev pub S : Automaton W
   S = sided side A B
 
   -- the entries of states run to them as trees
-  pub enters_trees : (P : ℕ → Type 0) (work : List (Place V)) (len : ℕ) (entries : List ℕ) → Forest K stands A B work len → Enters stands side P work len entries → (q : ℕ) → P q → RunsTo K S (λ p. tree_in (ranks_in first) work len (get_or entries p 0)) q
+  pub enters_trees : (P : ℕ → Type 0) (work : List (Place V)) (len : ℕ) (entries : List ℕ) → Forest K stands A B work len → Enters stands side P work len entries → (q : ℕ) → P q → RunsTo K S (λ p. tree_in (ranks_in first.shape.now) work len (get_or entries p 0)) q
   enters_trees P work len entries f e q p =
       ((e.runs q p).0, sym (side_run A B alphabet K stands work len f side (get_or entries q 0) (e.below q p)) ∙ (e.runs q p).1)
 
   module _ (sound : Sound S) where
     -- a rule of the side, as it was read
-    module _ (j : ℕ) (r : Rule V) (read : slice_get (sided side first_rules second_rules) j ≡ Some r) where
-      pub read_within : Within (ranks_in first) S.states (transition stands (ranks_in first) r)
+    module _ (j : ℕ) (r : Rule V) (read : slice_get (sided side first second).rules.now j ≡ Some r) where
+      pub read_within : Within (ranks_in first.shape.now) S.states (transition stands (ranks_in first.shape.now) r)
       read_within =
-          subst (λ (rs : List ℕ). Within rs S.states (transition stands (ranks_in first) r)) (side_ranks A B alphabet side)
-          (all_nth (Within S.ranks S.states) S.rules j (transition stands (ranks_in first) r) sound.within (side_rule stands first second first_rules second_rules alphabet side j r read))
+          subst (λ (rs : List ℕ). Within rs S.states (transition stands (ranks_in first.shape.now) r)) (side_ranks A B alphabet side)
+          (all_nth (Within S.ranks S.states) S.rules j (transition stands (ranks_in first.shape.now) r) sound.within (side_rule stands first second alphabet side j r read))
 
       -- its node over the entries of its children
-      module _ (P : ℕ → Type 0) (work work' : List (Place V)) (len : ℕ) (entries : List ℕ) (n : Node) (f : Forest K stands A B work len) (e : Enters stands side P work len entries) (all : AllByRecursion P (children_in first r.left)) (over : NodeOver (ranks_in first) r.left.symbol (map (λ q. get_or entries q 0) (children_in first r.left)) n) where
-        pub rule_good : Good (ranks_in first) len n
+      module _ (P : ℕ → Type 0) (work work' : List (Place V)) (len : ℕ) (entries : List ℕ) (n : Node) (f : Forest K stands A B work len) (e : Enters stands side P work len entries) (all : AllByRecursion P (children_in first.shape.now r.left)) (over : NodeOver (ranks_in first.shape.now) r.left.symbol (map (λ q. get_or entries q 0) (children_in first.shape.now r.left)) n) where
+        pub rule_good : Good (ranks_in first.shape.now) len n
         rule_good =
-            node_good (ranks_in first) r.left.symbol (map (λ q. get_or entries q 0) (children_in first r.left)) n (rank_small first.measure.alphabet r.left.symbol) over len read_within.symbol_within
-            (All-map (λ c. c < len) (λ q. get_or entries q 0) (children_in first r.left) (All-weaker P (λ q. get_or entries q 0 < len) e.below (children_in first r.left) all))
+            node_good (ranks_in first.shape.now) r.left.symbol (map (λ q. get_or entries q 0) (children_in first.shape.now r.left)) n (rank_small first.shape.now.measure.alphabet r.left.symbol) over len read_within.symbol_within
+            (All-map (λ c. c < len) (λ q. get_or entries q 0) (children_in first.shape.now r.left) (All-weaker P (λ q. get_or entries q 0 < len) e.below (children_in first.shape.now r.left) all))
 
-        earlier : AllByRecursion (λ c. c < len) (children_of (ranks_in first) n)
-        earlier = children_earlier (ranks_in first) len n (rank_small first.measure.alphabet n.symbol) rule_good
+        earlier : AllByRecursion (λ c. c < len) (children_of (ranks_in first.shape.now) n)
+        earlier = children_earlier (ranks_in first.shape.now) len n (rank_small first.shape.now.measure.alphabet n.symbol) rule_good
 
         -- runs to its target
         pub rule_runs : Forest K stands A B work' (len + 1) → nodes work' (len + 1) ≡ nodes work len ++ n ∷ [] → (w : W) × (run_at stands side work' len ≡ Some (record { state = r.target; weight = w }))
         rule_runs f' more =
-            let trees : ℕ → Tree = λ q. tree_in (ranks_in first) work len (get_or entries q 0) in
-            let t : Transition W = transition stands (ranks_in first) r in
+            let trees : ℕ → Tree = λ q. tree_in (ranks_in first.shape.now) work len (get_or entries q 0) in
+            let t : Transition W = transition stands (ranks_in first.shape.now) r in
             let row = runs_by K S trees t.children (All-weaker P (RunsTo K S trees) (enters_trees P work len entries f e) t.children all) in
-            let tree : tree_in (ranks_in first) work' (len + 1) len ≡ node t.symbol (row_by trees t.children) =
-            newest_tree (ranks_in first) work work' len n f.room more earlier
-            ∙ ap₂ (λ s cs. node s (row_of (trees_of (ranks_in first) (nodes work len)) cs)) over.symbol over.children
-            ∙ ap (node t.symbol) (row_mapped (trees_of (ranks_in first) (nodes work len)) (λ q. get_or entries q 0) t.children) in (
+            let tree : tree_in (ranks_in first.shape.now) work' (len + 1) len ≡ node t.symbol (row_by trees t.children) =
+            newest_tree (ranks_in first.shape.now) work work' len n f.room more earlier
+            ∙ ap₂ (λ s cs. node s (row_of (trees_of (ranks_in first.shape.now) (nodes work len)) cs)) over.symbol over.children
+            ∙ ap (node t.symbol) (row_mapped (trees_of (ranks_in first.shape.now) (nodes work len)) (λ q. get_or entries q 0) t.children) in (
               K.times row.0 t.weight,
               side_run A B alphabet K stands work' (len + 1) f' side len (omega arith)
                   ∙ ap (run K S) tree
                   ∙ ap (step K S t.symbol) row.1
-                  ∙ ap (applied K row.0) (find_itself S.rules j t sound.single (side_rule stands first second first_rules second_rules alphabet side j r read)),
+                  ∙ ap (applied K row.0) (find_itself S.rules j t sound.single (side_rule stands first second alphabet side j r read)),
             )
 
     -- the states that were reached
@@ -125,11 +126,11 @@ module _ {V W : Type 0} (K : Weights W) (stands : V → W) (first second : Shape
 
       -- the state at a place of the order, and its rule
       pub order_few : (i : ℕ) → i < R.count → (i < 48) × (get_or R.order i 0 < 48)
-      order_few i low = let few = side_few stands first second first_rules second_rules side in (omega (arith, reached.listed.bounded), omega (arith, reached.listed.within i low))
+      order_few i low = let few = side_few stands first second side in (omega (arith, reached.listed.bounded), omega (arith, reached.listed.within i low))
 
-      pub rule_there : (i : ℕ) → i < R.count → get_or R.rule (get_or R.order i 0) 0 < length (sided side first_rules second_rules)
+      pub rule_there : (i : ℕ) → i < R.count → rule_of R (get_or R.order i 0) < length (sided side first second).rules.now
       rule_there i low =
-          side_there stands first second first_rules second_rules side (get_or R.rule (get_or R.order i 0) 0) (reached.derived i low).rule (reached.derived i low).there
+          side_there stands first second side (rule_of R (get_or R.order i 0)) (reached.derived i low).rule (reached.derived i low).there
 
       pub planting_none : Forest K stands A B before len → HasEntries before (replicate 48 0) 0
       planting_none f = record {
@@ -140,25 +141,25 @@ module _ {V W : Type 0} (K : Weights W) (stands : V → W) (first second : Shape
       }
 
       -- the rule that reached the next of them, as it was read
-      module _ (work : List (Place V)) (entries : List ℕ) (i : ℕ) (p : HasEntries work entries i) (low : i < R.count) (r : Rule V) (read : slice_get (sided side first_rules second_rules) (get_or R.rule (get_or R.order i 0) 0) ≡ Some r) where
-        d : Derived S (take i R.order) (get_or R.order i 0) (get_or R.rule (get_or R.order i 0) 0)
+      module _ (work : List (Place V)) (entries : List ℕ) (i : ℕ) (p : HasEntries work entries i) (low : i < R.count) (r : Rule V) (read : slice_get (sided side first second).rules.now (rule_of R (get_or R.order i 0)) ≡ Some r) where
+        d : Derived S (take i R.order) (get_or R.order i 0) (rule_of R (get_or R.order i 0))
         d = reached.derived i low
 
-        is_rule : d.rule ≡ transition stands (ranks_in first) r
+        is_rule : d.rule ≡ transition stands (ranks_in first.shape.now) r
         is_rule =
             let e = d.there in
-            let f = side_rule stands first second first_rules second_rules alphabet side (get_or R.rule (get_or R.order i 0) 0) r read in
+            let f = side_rule stands first second alphabet side (rule_of R (get_or R.order i 0)) r read in
             cc
 
-        children_before : AllByRecursion (ContainsAt (take i R.order)) (children_in first r.left)
+        children_before : AllByRecursion (ContainsAt (take i R.order)) (children_in first.shape.now r.left)
         children_before = subst (λ (t : Transition W). AllByRecursion (ContainsAt (take i R.order)) t.children) is_rule d.children
 
         target_is : r.target ≡ get_or R.order i 0
         target_is = ap (λ (t : Transition W). t.target) (sym is_rule) ∙ d.target
 
-        module _ (n : Node) (over : NodeOver (ranks_in first) r.left.symbol (map (λ q. get_or entries q 0) (children_in first r.left)) n) where
-          pub planting_good : Good (ranks_in first) (len + i) n
-          planting_good = rule_good (get_or R.rule (get_or R.order i 0) 0) r read (ContainsAt (take i R.order)) work work (len + i) entries n p.forest p.enters children_before over
+        module _ (n : Node) (over : NodeOver (ranks_in first.shape.now) r.left.symbol (map (λ q. get_or entries q 0) (children_in first.shape.now r.left)) n) where
+          pub planting_good : Good (ranks_in first.shape.now) (len + i) n
+          planting_good = rule_good (rule_of R (get_or R.order i 0)) r read (ContainsAt (take i R.order)) work work (len + i) entries n p.forest p.enters children_before over
 
           pub planting_more : (work' : List (Place V)) → i < length R.order → get_or R.order i 0 < 48 → Forest K stands A B work' (len + i + 1) → nodes work' (len + i + 1) ≡ nodes work (len + i) ++ n ∷ [] → take (len + i) work' ≡ take (len + i) work → HasEntries work' (set entries (get_or R.order i 0) (len + i)) (i + 1)
           planting_more work' short few f' more older =
@@ -167,7 +168,7 @@ module _ {V W : Type 0} (K : Weights W) (stands : V → W) (first second : Shape
               let long = p.long in
               let here : get_or (set entries q (len + i)) q 0 ≡ len + i = get_or-set_same entries q (len + i) 0 (omega arith) in
               let still = enters_still work work' (len + i) older stands side (ContainsAt (take i R.order)) entries (len + (i + 1)) (omega arith) p.enters in
-              let ran = rule_runs (get_or R.rule q 0) r read (ContainsAt (take i R.order)) work work' (len + i) entries n p.forest p.enters children_before over f' more in
+              let ran = rule_runs (rule_of R q) r read (ContainsAt (take i R.order)) work work' (len + i) entries n p.forest p.enters children_before over f' more in
               record {
                 forest = subst (Forest K stands A B work') up f';
                 same = sym (take-take len (len + i) work' (omega arith)) ∙ ap (take len) older ∙ take-take len (len + i) work (omega arith) ∙ p.same;

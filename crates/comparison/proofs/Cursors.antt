@@ -36,7 +36,7 @@ at_end i j len c e = at (ltb c.first i) (ltb c.second j) (ltb c.start len) refl 
     at false false true f g h k = let w : ◌≡◌ {A = ℕ} 0 1 = cc in absurd (omega arith)
     at false false false f g h k = (ltb-false c.first i f, ltb-false c.second j g, ltb-false c.start len h)
 
-module _ {W : Type 0} (K : Weights W) (T : Two W) (R : Side → ℕ → Option (At W)) (N : ℕ → ℕ → ℕ) where
+module _ {W : Type 0} (K : Weights W) (T : Two W) (R : Side → ℕ → Option (At W)) (N : ℕ → ℕ → Option ℕ) where
   clear_none : (m : ℕ) → ClearSince K T R N m 0 0
   clear_none m = record { first_clear = λ k r h. absurd (omega arith); second_clear = λ k r h. absurd (omega arith) }
 
@@ -50,7 +50,7 @@ module _ {W : Type 0} (K : Weights W) (T : Two W) (R : Side → ℕ → Option (
     quiet = λ m e. let z : ◌≡◌ {A = ℕ} 0 1 = cc in absurd (omega arith);
   }
 
-  pub passed_found : (R' : Side → ℕ → Option (At W)) (N' : ℕ → ℕ → ℕ) (len : ℕ) (c : Cursor) → Grown R R' N N' len → Passed K T R N len c → Passed K T R' N' (len + 1) c
+  pub passed_found : (R' : Side → ℕ → Option (At W)) (N' : ℕ → ℕ → Option ℕ) (len : ℕ) (c : Cursor) → Grown R R' N N' len → Passed K T R N len c → Passed K T R' N' (len + 1) c
   passed_found R' N' len c grown p = record {
     first_low = p.first_low;
     second_low = p.second_low;

@@ -8,11 +8,10 @@ use Rattle.automata.specs.Contexts.{OverContext, plug, Sign, Live}
 use Rattle.automata.proofs.Signs.{weighs_sign, weighs_nothing, weighs_live}
 use Rattle.trees.proofs.Ranks.{rank_small}
 use Rattle.rules.specs.declared.place.Place.{Place}
-use Rattle.rules.specs.declared.rule.Rule.{Rule}
-use Rattle.rules.specs.declared.shape.Shape.{Shape}
+use Rattle.rules.specs.declared.table.Table.{Table}
 use Rattle.rules.specs.declared.side.Side.{Side}
 use Rattle.rules.specs.declared.side.Side.TheVariants.{First, Second}
-use Rattle.rules.specs.Shapes.{ranks_in, automaton}
+use Rattle.rules.specs.Shapes.{ranks_in, automaton_of}
 use Rattle.comparison.specs.declared.climbed.Climbed.{Climbed}
 use Rattle.comparison.specs.declared.survey.Survey.{Survey}
 use Rattle.comparison.specs.Forest.{tree_in, Forest}
@@ -43,18 +42,18 @@ module _ {W : Type 0} (K : Weights W) where
   apart_sides A B First u h e = h e
   apart_sides A B Second u h e = h (sym e)
 
-module _ {V W : Type 0} (K : Weights W) (stands : V → W) (first second : Shape) (first_rules second_rules : List (Rule V)) (side : Side) (s : Survey) (work : List (Place V)) (len entry : ℕ) (m : Matched (automaton stands first first_rules) (automaton stands second second_rules)) (f : Forest K stands (automaton stands first first_rules) (automaton stands second second_rules) work len) (k : Known stands (automaton stands first first_rules) (automaton stands second second_rules) side s work len) (low : entry < len) where
+module _ {V W : Type 0} (K : Weights W) (stands : V → W) (first second : Table V) (side : Side) (s : Survey) (work : List (Place V)) (len entry : ℕ) (m : Matched (automaton_of stands first) (automaton_of stands second)) (f : Forest K stands (automaton_of stands first) (automaton_of stands second) work len) (k : Known stands (automaton_of stands first) (automaton_of stands second) side s work len) (low : entry < len) where
   abbrev A : Automaton W
-  A = automaton stands first first_rules
+  A = automaton_of stands first
 
   abbrev B : Automaton W
-  B = automaton stands second second_rules
+  B = automaton_of stands second
 
   abbrev S : Automaton W
   S = sided side A B
 
   abbrev t : Tree
-  t = tree_in (ranks_in first) work len entry
+  t = tree_in (ranks_in first.shape.now) work len entry
 
   pub ready : len + S.states ≤ length work + 1 → EndsLive stands side s.life work entry → Prepared K stands A B side s.reach work len × (Climbable stands A B side s.reach s.life s.access work len entry × EndsLive stands side s.life work entry)
   ready room there = (
@@ -67,11 +66,11 @@ module _ {V W : Type 0} (K : Weights W) (stands : V → W) (first second : Shape
       let a = lonely.there.0 in
       let c = climbs a lonely.there.1 in
       let p = known_prepared K stands A B m side s work len k f in
-      let sign = access_sign K stands first second first_rules second_rules side s.reach s.life s.access work len p k.lively k.enters a.state lonely.there.2 in
+      let sign = access_sign K stands first second side s.reach s.life s.access work len p k.lively k.enters a.state lonely.there.2 in
       let mine = side_ranks A B m.alphabet side in
       let other = side_ranks A B m.alphabet (other_side side) in
-      let tree : tree_in (ranks_in first) work' r.len r.top ≡ plug sign.0.context t = c.tree ∙ ap (λ d. plug d t) (sym sign.1) in
-      let over : Over S.ranks t = subst (λ rs. Over rs t) (sym mine) (forest_over K stands A B work len (rank_small first.measure.alphabet) f entry low) in
+      let tree : tree_in (ranks_in first.shape.now) work' r.len r.top ≡ plug sign.0.context t = c.tree ∙ ap (λ d. plug d t) (sym sign.1) in
+      let over : Over S.ranks t = subst (λ rs. Over rs t) (sym mine) (forest_over K stands A B work len (rank_small first.shape.now.measure.alphabet) f entry low) in
       record {
         len = r.len;
         forest = c.forest;

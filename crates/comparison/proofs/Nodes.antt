@@ -31,22 +31,20 @@ module _ (entry states : List ℕ) where
         rest = λ j l. get_or-set_other children k j v 0 (λ i. omega arith) ∙ f.rest j (omega arith);
       }
 
-  pub filled_node : (ranks : List ℕ) (s n : ℕ) (children : List ℕ) → n ≡ s → (k m : ℕ) → m ≡ rank ranks n → m ≤ 4 → m ≤ k → k ≤ m → length states ≡ 4 → Filling entry states children k → NodeOver ranks s (map (λ q. get_or entry q 0) (take (rank ranks s) states)) (record { symbol = n; children = children })
-  filled_node ranks s n children e k m same small high low long f =
-      let many : k ≡ rank ranks n = omega arith in
-      let there : length (take (rank ranks n) children) ≡ rank ranks n = length-take-le (rank ranks n) children (omega (arith, f.four)) in
-      let here : length (take (rank ranks n) states) ≡ rank ranks n = length-take-le (rank ranks n) states (omega arith) in
-      let mapped : length (map (λ q. get_or entry q 0) (take (rank ranks n) states)) ≡ rank ranks n = length-map (take (rank ranks n) states) (λ q. get_or entry q 0) ∙ here in
+  pub filled_node : (ranks : List ℕ) (s n : ℕ) (children : List ℕ) → n ≡ s → (k : ℕ) → k ≡ length states → length states ≡ rank ranks s → k ≤ 4 → Filling entry states children k → NodeOver ranks s (map (λ q. get_or entry q 0) states) (record { symbol = n; children = children })
+  filled_node ranks s n children e k end many small f =
+      let same : rank ranks n ≡ k = ap (rank ranks) e ∙ (omega arith) in
+      let there : length (take (rank ranks n) children) ≡ k = length-take-le (rank ranks n) children (omega (arith, f.four)) ∙ same in
+      let mapped : length (map (λ q. get_or entry q 0) states) ≡ k = length-map states (λ q. get_or entry q 0) ∙ (omega arith) in
       record {
         symbol = e;
         four = f.four;
-        children = same_lists (take (rank ranks n) children) (map (λ q. get_or entry q 0) (take (rank ranks n) states)) (there ∙ sym mapped) (λ j d l.
-            let low' : j < rank ranks n = omega arith in
-            let c : get_or (take (rank ranks n) children) j d ≡ get_or children j 0 = get_or-take (rank ranks n) children j d low' ∙ get_or_default children j d 0 (omega (arith, f.four)) in
-            let q : get_or (map (λ p. get_or entry p 0) (take (rank ranks n) states)) j d ≡ get_or entry (get_or states j 0) 0 =
-            get_or-map (λ p. get_or entry p 0) (take (rank ranks n) states) j 0 d (omega arith) ∙ ap (λ p. get_or entry p 0) (get_or-take (rank ranks n) states j 0 low') in
-            c ∙ f.filled j (omega arith) ∙ sym q)
-            ∙ ap (λ t. map (λ q. get_or entry q 0) (take (rank ranks t) states)) e;
+        children = same_lists (take (rank ranks n) children) (map (λ q. get_or entry q 0) states) (there ∙ sym mapped) (λ j d l.
+            let low : j < k = omega arith in
+            get_or-take (rank ranks n) children j d (omega arith)
+            ∙ get_or_default children j d 0 (omega (arith, f.four))
+            ∙ f.filled j low
+            ∙ sym (get_or-map (λ p. get_or entry p 0) states j 0 d (omega arith)));
         padded = λ j l h. f.rest j (omega (arith, ap (rank ranks) e));
       }
 

@@ -38,33 +38,33 @@ same_accepted false true v w e = let z : ◌≡◌ {A = ℕ} 0 1 = cc in absurd 
 same_accepted false false v w e = (refl, λ h. absurd (true≢false (sym h)))
 
 -- the entry len has a new pair, and its tree weighs the same in both
-pub record New {W : Type 0} (T : Two W) (R : Side → ℕ → Option (At W)) (N : ℕ → ℕ → ℕ) (len : ℕ) : Type 0 where
+pub record New {W : Type 0} (T : Two W) (R : Side → ℕ → Option (At W)) (N : ℕ → ℕ → Option ℕ) (len : ℕ) : Type 0 where
   pub one : At W
   pub other : At W
   pub first_run : R First len ≡ Some one
   pub second_run : R Second len ≡ Some other
-  pub number : N one.state other.state ≡ 0
+  pub number : N one.state other.state ≡ None
   pub entry : Entry T R len one.state other.state
 
 -- the node s(es) was planted as the entry len
-module _ {W : Type 0} (K : Weights W) (T : Two W) (R R' : Side → ℕ → Option (At W)) (N : ℕ → ℕ → ℕ) (len s : ℕ) (es : List ℕ) (ran : (side : Side) → R' side len ≡ step K (of_side T side) s (row_runs K (map (R side) es))) where
-  judged : (v : Verdict) → Said K T R N s es v → Judged K R N (to_live T.first_live (R' First len)) (to_live T.second_live (R' Second len)) v
+module _ {W : Type 0} (K : Weights W) (T : Two W) (R R' : Side → ℕ → Option (At W)) (N : ℕ → ℕ → Option ℕ) (len s : ℕ) (es : List ℕ) (ran : (side : Side) → R' side len ≡ step K (of_side T side) s (row_runs K (map (R side) es))) where
+  judged : (v : Verdict) → Said K T R N s es (Some v) → Judged K R N (to_live T.first_live (R' First len)) (to_live T.second_live (R' Second len)) (Some v)
   judged v said =
-      subst (λ (x : Option (At W)). Judged K R N (to_live T.first_live x) (to_live T.second_live (R' Second len)) v) (sym (ran First))
-      (subst (λ (y : Option (At W)). Judged K R N (to_live T.first_live (step K T.first s (row_runs K (map (R First) es)))) (to_live T.second_live y) v) (sym (ran Second)) said)
+      subst (λ (x : Option (At W)). Judged K R N (to_live T.first_live x) (to_live T.second_live (R' Second len)) (Some v)) (sym (ran First))
+      (subst (λ (y : Option (At W)). Judged K R N (to_live T.first_live (step K T.first s (row_runs K (map (R First) es)))) (to_live T.second_live y) (Some v)) (sym (ran Second)) said)
 
   one_sided : (live live' : ℕ → Bool) (x y : Option (At W)) → Alone (to_live live x) (to_live live' y) → OneSided live live' x y
   one_sided live live' x y alone =
       let l = to_live_some live x alone.one alone.there in
       record { one = alone.one; there = l.0; is_live = l.1; no_other = to_live_none live' y alone.no_other }
 
-  pub lone_first : Said K T R N s es (Lone First) → OneSided T.first_live T.second_live (R' First len) (R' Second len)
+  pub lone_first : Said K T R N s es (Some (Lone First)) → OneSided T.first_live T.second_live (R' First len) (R' Second len)
   lone_first said = one_sided T.first_live T.second_live (R' First len) (R' Second len) (judged (Lone First) said)
 
-  pub lone_second : Said K T R N s es (Lone Second) → OneSided T.second_live T.first_live (R' Second len) (R' First len)
+  pub lone_second : Said K T R N s es (Some (Lone Second)) → OneSided T.second_live T.first_live (R' Second len) (R' First len)
   lone_second said = one_sided T.second_live T.first_live (R' Second len) (R' First len) (judged (Lone Second) said)
 
-  pub new_pair : weight_by T.first.accepting (R' First len) ≡ weight_by T.second.accepting (R' Second len) → Said K T R N s es NewPair → New T R' N len
+  pub new_pair : weight_by T.first.accepting (R' First len) ≡ weight_by T.second.accepting (R' Second len) → Said K T R N s es (Some NewPair) → New T R' N len
   new_pair same said =
       let pair = judged NewPair said in
       let a = pair.one in
@@ -93,7 +93,7 @@ module _ {W : Type 0} (K : Weights W) (T : Two W) (R R' : Side → ℕ → Optio
       }
 
   -- a known pair with another ratio
-  pub uneven : (base o : ℕ) → ((side : Side) (e : ℕ) → e < len → R' side e ≡ R side e) → Pairing T R N base len → Said K T R N s es (Uneven o) → (o < len) × TwoRatios K T.first_live R' len o
+  pub uneven : (base o : ℕ) → ((side : Side) (e : ℕ) → e < len → R' side e ≡ R side e) → Pairing T R N base len → Said K T R N s es (Some (Uneven o)) → (o < len) × TwoRatios K T.first_live R' len o
   uneven base o kept pairing said =
       let both = judged (Uneven o) said in
       let a = both.one in

@@ -1,5 +1,5 @@
 -- The known pairs: none at first, one more, and at most as many as there are pairs of states.
-use Rattle.std.proofs.Common.{◌≡◌, ℕ, suc, ◌+◌, ◌-◌, ◌*◌, ◌<◌, ◌≤◌, cond, ◌&&◌, eqb, Option, sym, refl, ap, ◌∙◌, subst, ap₂, ⊎_elim, mul-le-mul_right, suc-mul, arith}
+use Rattle.std.proofs.Common.{◌≡◌, ℕ, suc, ◌+◌, ◌-◌, Some, None, ◌*◌, ◌<◌, ◌≤◌, cond, ◌&&◌, eqb, Option, sym, refl, ap, ◌∙◌, subst, ap₂, ⊎_elim, mul-le-mul_right, suc-mul, arith}
 use Rattle.std.proofs.lemmas.Bool.{cases_lt, cases_Bool, cases_order, and_parts, and_from, eqb-true, eq-eqb, cond-true, cond-false}
 use Rattle.automata.specs.Runs.{At}
 use Rattle.automata.proofs.Pigeons.{Placed, Unshared, pigeonhole}
@@ -8,14 +8,17 @@ use Rattle.rules.specs.declared.side.Side.TheVariants.{First, Second}
 use Rattle.comparison.specs.Scanning.{Two, PairsWithin}
 use Rattle.comparison.specs.Exploring.{LiveWithin, Entry, Pairing, Grown}
 
+none_some : (e : ℕ) → ◌≡◌ {A = Option ℕ} None (Some e) → ⊥
+none_some e h = let z : ◌≡◌ {A = ℕ} 0 1 = cc in omega arith
+
 module _ {W : Type 0} (T : Two W) where
-  pub pairing_none : (R : Side → ℕ → Option (At W)) (N : ℕ → ℕ → ℕ) (base : ℕ) → ((p q : ℕ) → N p q ≡ 0) → Pairing T R N base base
+  pub pairing_none : (R : Side → ℕ → Option (At W)) (N : ℕ → ℕ → Option ℕ) (base : ℕ) → ((p q : ℕ) → N p q ≡ None) → Pairing T R N base base
   pairing_none R N base none = record {
-    numbered = λ p q e h. let z : N p q ≡ 0 = none p q in absurd (omega arith);
+    numbered = λ p q e h. let z = none p q in absurd (none_some e (cc));
     entries = λ e h l. absurd (omega arith);
   }
 
-  pub pairs_within : (R : Side → ℕ → Option (At W)) (N : ℕ → ℕ → ℕ) (base len : ℕ) → LiveWithin T → Pairing T R N base len → PairsWithin T N
+  pub pairs_within : (R : Side → ℕ → Option (At W)) (N : ℕ → ℕ → Option ℕ) (base len : ℕ) → LiveWithin T → Pairing T R N base len → PairsWithin T N
   pairs_within R N base len live pairing p q e known =
       let entry = (pairing.numbered p q e known).2 in
       (live.first_within p entry.first_is_live, live.second_within q entry.second_is_live)
@@ -34,50 +37,50 @@ module _ {W : Type 0} (T : Two W) where
   }
 
   -- one pair more, in the entry behind the last
-  module _ (R R' : Side → ℕ → Option (At W)) (N N' : ℕ → ℕ → ℕ) (base len p q : ℕ) (low : base ≤ len) (kept : (side : Side) (e : ℕ) → e < len → R' side e ≡ R side e) (noted : (x y : ℕ) → N' x y ≡ cond (eqb x p && eqb y q) (len + 1) (N x y)) (new : N p q ≡ 0) (entry : Entry T R' len p q) (pairing : Pairing T R N base len) where
-    here : N' p q ≡ suc len
-    here = noted p q ∙ cond-true (eqb p p && eqb q q) (len + 1) (N p q) (and_from (eqb p p) (eqb q q) (eq-eqb p p refl) (eq-eqb q q refl)) ∙ (omega arith)
+  module _ (R R' : Side → ℕ → Option (At W)) (N N' : ℕ → ℕ → Option ℕ) (base len p q : ℕ) (low : base ≤ len) (kept : (side : Side) (e : ℕ) → e < len → R' side e ≡ R side e) (noted : (x y : ℕ) → N' x y ≡ cond (eqb x p && eqb y q) (Some len) (N x y)) (new : N p q ≡ None) (entry : Entry T R' len p q) (pairing : Pairing T R N base len) where
+    here : N' p q ≡ Some len
+    here = noted p q ∙ cond-true (eqb p p && eqb q q) (Some len) (N p q) (and_from (eqb p p) (eqb q q) (eq-eqb p p refl) (eq-eqb q q refl))
 
-    numbered_more : (x y e : ℕ) → N' x y ≡ suc e → (base ≤ e) × (e < len + 1) × Entry T R' e x y
+    numbered_more : (x y e : ℕ) → N' x y ≡ Some e → (base ≤ e) × (e < len + 1) × Entry T R' e x y
     numbered_more x y e known = ⊎_elim
         (λ t.
         let both = and_parts (eqb x p) (eqb y q) t in
         let x_is : p ≡ x = sym (eqb-true x p both.0) in
         let y_is : q ≡ y = sym (eqb-true y q both.1) in
-        let at : N' x y ≡ len + 1 = noted x y ∙ cond-true (eqb x p && eqb y q) (len + 1) (N x y) t in
-        let e_is : len ≡ e = omega arith in
+        let at : N' x y ≡ Some len = noted x y ∙ cond-true (eqb x p && eqb y q) (Some len) (N x y) t in
+        let e_is : len ≡ e = cc in
         let moved : Entry T R' e x y = subst (λ (k : ℕ). Entry T R' k x y) e_is (subst (λ (k : ℕ). Entry T R' len x k) y_is (subst (λ (k : ℕ). Entry T R' len k q) x_is entry)) in
         (omega arith, omega arith, moved))
         (λ f.
-        let old = pairing.numbered x y e (sym (noted x y ∙ cond-false (eqb x p && eqb y q) (len + 1) (N x y) f) ∙ known) in
+        let old = pairing.numbered x y e (sym (noted x y ∙ cond-false (eqb x p && eqb y q) (Some len) (N x y) f) ∙ known) in
         (old.0, (omega (arith, old.1)), entry_kept R R' e x y (kept First e old.1) (kept Second e old.1) old.2)) (cases_Bool (eqb x p && eqb y q))
 
     -- a known pair keeps its number
-    known_more : (x y e : ℕ) → N x y ≡ suc e → N' x y ≡ suc e
+    known_more : (x y e : ℕ) → N x y ≡ Some e → N' x y ≡ Some e
     known_more x y e known = ⊎_elim
         (λ t.
         let both = and_parts (eqb x p) (eqb y q) t in
         let same : N x y ≡ N p q = ap₂ N (eqb-true x p both.0) (eqb-true y q both.1) in
-        absurd (omega arith))
-        (λ f. noted x y ∙ cond-false (eqb x p && eqb y q) (len + 1) (N x y) f ∙ known) (cases_Bool (eqb x p && eqb y q))
+        absurd (none_some e (sym new ∙ sym same ∙ known)))
+        (λ f. noted x y ∙ cond-false (eqb x p && eqb y q) (Some len) (N x y) f ∙ known) (cases_Bool (eqb x p && eqb y q))
 
     -- a pair of an earlier entry was known
-    earlier_more : (x y e : ℕ) → N' x y ≡ suc e → e < len → N x y ≡ suc e
+    earlier_more : (x y e : ℕ) → N' x y ≡ Some e → e < len → N x y ≡ Some e
     earlier_more x y e known low = ⊎_elim
-        (λ t. let at : N' x y ≡ len + 1 = noted x y ∙ cond-true (eqb x p && eqb y q) (len + 1) (N x y) t in absurd (omega arith))
-        (λ f. sym (noted x y ∙ cond-false (eqb x p && eqb y q) (len + 1) (N x y) f) ∙ known) (cases_Bool (eqb x p && eqb y q))
+        (λ t. let at : N' x y ≡ Some len = noted x y ∙ cond-true (eqb x p && eqb y q) (Some len) (N x y) t in let same : len ≡ e = cc in absurd (omega arith))
+        (λ f. sym (noted x y ∙ cond-false (eqb x p && eqb y q) (Some len) (N x y) f) ∙ known) (cases_Bool (eqb x p && eqb y q))
 
     pub grown_more : Grown R R' N N' len
     grown_more = record { runs = kept; known = λ x y e h. ((pairing.numbered x y e h).1, known_more x y e h); earlier = earlier_more }
 
-    entries_more : (e : ℕ) → base ≤ e → e < len + 1 → (x : ℕ) × (y : ℕ) × (N' x y ≡ suc e)
+    entries_more : (e : ℕ) → base ≤ e → e < len + 1 → (x : ℕ) × (y : ℕ) × (N' x y ≡ Some e)
     entries_more e h l = ⊎_elim
         (λ less.
         let old = pairing.entries e h less in
         let x = old.0 in
         let y = old.1 in
         (x, y, known_more x y e old.2))
-        (λ most. let same : len ≡ e = omega arith in (p, q, here ∙ ap suc same)) (cases_lt e len)
+        (λ most. let same : len ≡ e = omega arith in (p, q, here ∙ ap Some same)) (cases_lt e len)
 
     pub pairing_more : Pairing T R' N' base (len + 1)
     pairing_more = record { numbered = numbered_more; entries = entries_more }
@@ -92,12 +95,12 @@ row_less m p q x y hq h = omega (arith, suc-mul p m, mul-le-mul_right {m = suc p
 same_row : (m p q x y : ℕ) → q < m → y < m → p * m + q ≡ x * m + y → p ≡ x
 same_row m p q x y hq hy e = ⊎_elim (λ s. s) (⊎_elim (λ l. absurd (omega (arith, row_less m p q x y hq l))) (λ l. absurd (omega (arith, row_less m x y p q hy l)))) (cases_order p x)
 
-module _ {W : Type 0} (T : Two W) (R : Side → ℕ → Option (At W)) (N : ℕ → ℕ → ℕ) (base len : ℕ) (within : PairsWithin T N) (pairing : Pairing T R N base len) where
+module _ {W : Type 0} (T : Two W) (R : Side → ℕ → Option (At W)) (N : ℕ → ℕ → Option ℕ) (base len : ℕ) (within : PairsWithin T N) (pairing : Pairing T R N base len) where
   -- the pair of the entry base + i has this number
   record Numbered (i k : ℕ) : Type 0 where
     p : ℕ
     q : ℕ
-    known : N p q ≡ suc (base + i)
+    known : N p q ≡ Some (base + i)
     cell : k ≡ p * T.second.states + q
 
   placed : Placed (len - base) (T.first.states * T.second.states) Numbered
@@ -116,7 +119,9 @@ module _ {W : Type 0} (T : Two W) (R : Side → ℕ → Option (At W)) (N : ℕ 
       let rows : a.p * m ≡ b.p * m = ap (λ x. x * m) same_p in
       let same_q : a.q ≡ b.q = omega arith in
       let same : N a.p a.q ≡ N b.p b.q = ap₂ N same_p same_q in
-      omega (arith, a.known, b.known)
+      let both : Some (base + i) ≡ Some (base + j) = sym a.known ∙ same ∙ b.known in
+      let entries : base + i ≡ base + j = cc in
+      omega arith
 
   pub pairing_bound : len ≤ base + T.first.states * T.second.states
   pairing_bound = omega (arith, pigeonhole (T.first.states * T.second.states) (len - base) Numbered placed unshared)

@@ -1,5 +1,5 @@
 -- The run of a node that was planted, and the runs of the entries before it.
-use Rattle.std.proofs.Common.{◌≡◌, ℕ, zero, suc, ◌+◌, ◌<◌, ◌≤◌, List, [], ◌∷◌, ◌++◌, map, length, get_or, take, Option, sym, refl, ap, ◌∙◌, subst, le_of_suc-le-suc, arith}
+use Rattle.std.proofs.Common.{◌≡◌, ℕ, zero, suc, ◌+◌, ◌<◌, ◌≤◌, List, [], ◌∷◌, ◌++◌, map, length, get_or, take, Some, Option, sym, refl, ap, ◌∙◌, subst, le_of_suc-le-suc, arith}
 use Rattle.std.specs.List.{slice_get}
 use Rattle.std.proofs.lemmas.List.{get_or_push}
 use Rattle.kinds.specs.Weights.{Weights}
@@ -40,7 +40,7 @@ module _ {V W : Type 0} (K : Weights W) (stands : V → W) (work work' : List (P
       ∙ ap (λ (m : Node). step K (automaton stands shape rules) m.symbol (row_runs K (map (run_at stands side work) (children_of (ranks_in shape) m)))) here
 
 -- a node over entries of known pairs can be planted
-pub told_good : {W : Type 0} (K : Weights W) (T : Two W) (R : Side → ℕ → Option (At W)) (N : ℕ → ℕ → ℕ) (len : ℕ) (f : Finding) → ((p q e : ℕ) → N p q ≡ suc e → e < len) → Told K T R N f → Good T.first.ranks len f.node
+pub told_good : {W : Type 0} (K : Weights W) (T : Two W) (R : Side → ℕ → Option (At W)) (N : ℕ → ℕ → Option ℕ) (len : ℕ) (f : Finding) → ((p q e : ℕ) → N p q ≡ Some e → e < len) → Told K T R N f → Good T.first.ranks len f.node
 told_good K T R N len f earlier told =
     let ranks = T.first.ranks in
     let same = told.tells.symbol in

@@ -12,10 +12,11 @@ use Rattle.trees.proofs.Entries.{tree_entry, trees_front, row_front}
 use Rattle.rules.specs.declared.place.Place.{Place}
 use Rattle.rules.specs.declared.rule.Rule.{Rule}
 use Rattle.rules.specs.declared.shape.Shape.{Shape}
+use Rattle.rules.specs.declared.table.Table.{Table}
 use Rattle.rules.specs.declared.side.Side.{Side}
 use Rattle.rules.specs.declared.side.Side.TheVariants.{First, Second}
 use Rattle.rules.specs.Running.{place_run, run_at, row_runs}
-use Rattle.rules.specs.Shapes.{ranks_in, automaton}
+use Rattle.rules.specs.Shapes.{ranks_in, automaton, automaton_of}
 use Rattle.rules.proofs.Entries.{RunBelow, run_more}
 use Rattle.comparison.specs.Forest.{nodes, tree_in, Forest}
 
@@ -62,14 +63,14 @@ module _ {V W : Type 0} (K : Weights W) (stands : V → W) (work : List (Place V
       (ran ∙ ap (λ (m : Node). step K A m.symbol (row_runs K (map (run_at stands side work) (children_of (ranks_in shape) m)))) (sym here)) in
       λ i h. more i h ∙ ap (λ ms. run K A (tree_at (ranks_in shape) ms i)) (sym (nodes_planted work len p room))
 
-  pub planted : (first : Shape) (first_rules : List (Rule V)) (second : Shape) (second_rules : List (Rule V)) → Good (ranks_in first) len p.node → place_run stands First (Some p) ≡ step K (automaton stands first first_rules) p.node.symbol (row_runs K (map (run_at stands First work) (children_of (ranks_in first) p.node))) → place_run stands Second (Some p) ≡ step K (automaton stands second second_rules) p.node.symbol (row_runs K (map (run_at stands Second work) (children_of (ranks_in second) p.node))) → ranks_in first ≡ ranks_in second → Forest K stands (automaton stands first first_rules) (automaton stands second second_rules) work len → Forest K stands (automaton stands first first_rules) (automaton stands second second_rules) (set work len p) (len + 1)
-  planted first first_rules second second_rules good ran₁ ran₂ same f =
+  pub planted : (first second : Table V) → Good (ranks_in first.shape.now) len p.node → place_run stands First (Some p) ≡ step K (automaton_of stands first) p.node.symbol (row_runs K (map (run_at stands First work) (children_of (ranks_in first.shape.now) p.node))) → place_run stands Second (Some p) ≡ step K (automaton_of stands second) p.node.symbol (row_runs K (map (run_at stands Second work) (children_of (ranks_in second.shape.now) p.node))) → ranks_in first.shape.now ≡ ranks_in second.shape.now → Forest K stands (automaton_of stands first) (automaton_of stands second) work len → Forest K stands (automaton_of stands first) (automaton_of stands second) (set work len p) (len + 1)
+  planted first second good ran₁ ran₂ same f =
       let long : length (nodes work len) ≡ len = length_nodes work len (omega arith) in
       record {
         room = omega (arith, length-set work len p);
-        good = subst (λ (ms : List Node). (i : ℕ) → i < len + 1 → GoodAt (ranks_in first) ms i) (sym (nodes_planted work len p room)) (push_each (Good (ranks_in first)) (nodes work len) p.node len long f.good good);
-        first_runs = runs_planted first first_rules First good f.first_runs ran₁;
-        second_runs = runs_planted second second_rules Second (subst (λ (rs : List ℕ). Good rs len p.node) same good) f.second_runs ran₂;
+        good = subst (λ (ms : List Node). (i : ℕ) → i < len + 1 → GoodAt (ranks_in first.shape.now) ms i) (sym (nodes_planted work len p room)) (push_each (Good (ranks_in first.shape.now)) (nodes work len) p.node len long f.good good);
+        first_runs = runs_planted first.shape.now first.rules.now First good f.first_runs ran₁;
+        second_runs = runs_planted second.shape.now second.rules.now Second (subst (λ (rs : List ℕ). Good rs len p.node) same good) f.second_runs ran₂;
       }
 
 -- a work list to which a node was added

@@ -1,62 +1,51 @@
 -- Rules that stay clear while pairs are found over other states.
-use Rattle.std.proofs.Common.{◌≡◌, ℕ, zero, suc, ◌+◌, ◌<◌, ◌≤◌, List, [], ◌∷◌, map, get_or, take, Some, None, Option, sym, refl, ap, ◌∙◌, subst, ap₂, ⊎_elim, arith}
-use Rattle.std.proofs.lemmas.List.{length-take, get_or-take}
-use Rattle.std.proofs.lemmas.Bool.{cases_eq}
+use Rattle.std.proofs.Common.{◌≡◌, ℕ, suc, ◌<◌, ◌≤◌, Bool, true, List, [], ◌∷◌, map, length, get_or, Some, None, Option, sym, refl, ap, ◌∙◌, ap₂, ⊎_elim, arith}
+use Rattle.std.specs.List.{list_all, range_with_len}
+use Rattle.std.proofs.lemmas.List.FromFn.{length-range_with_len, get_or-range_with_len}
+use Rattle.std.proofs.lemmas.List.Folds.{list_all_at}
+use Rattle.std.proofs.lemmas.Bool.{cases_Bool, both_ways, ltb-true}
 use Rattle.kinds.specs.Weights.{Weights}
 use Rattle.automata.specs.Automata.{Transition}
 use Rattle.automata.specs.Runs.{At, step}
 use Rattle.rules.specs.declared.side.Side.{Side}
 use Rattle.rules.specs.declared.side.Side.TheVariants.{First, Second}
 use Rattle.rules.specs.Running.{row_runs}
-use Rattle.comparison.specs.declared.scan_verdict.Verdict.TheVariants.{Clear}
-use Rattle.comparison.specs.Scanning.{Two, of_side, other_side, to_live, live_on, number_by, Clears, Tuple, node_run, PairsWithin, ClearRule, Rested, ClearSince}
+use Rattle.comparison.specs.Scanning.{Two, is_before, early_pairs, of_side, other_side, to_live, live_on, number_by, Clears, Tuple, node_run, PairsWithin, ClearRule, Rested, ClearSince}
 use Rattle.comparison.specs.Exploring.{Grown}
 use Rattle.comparison.proofs.Judgments.{judged_same}
 use Rattle.comparison.proofs.Tuples.{below_others}
 
--- numbers up to m, for the states of the other side before n
-abbrev pub Early : Side → (ℕ → ℕ → ℕ) → ℕ → ℕ → ℕ → Type 0
-Early side N m p n = (q : ℕ) → q < n → number_by side N p q ≤ m
+-- where all pass, each does
+holds_at : {X : Type 0} (test : X → Bool) (xs : List X) (i : ℕ) (d : X) → list_all test xs ≡ true → i < length xs → test (get_or xs i d) ≡ true
+holds_at test xs i d all h = ⊎_elim (λ t. t) (λ f. absurd (both_ways (list_all test xs) (list_all_at test xs i d h f) all)) (cases_Bool (test (get_or xs i d)))
 
-pub early_more : (side : Side) (N : ℕ → ℕ → ℕ) (m p n : ℕ) → number_by side N p n ≤ m → Early side N m p n → Early side N m p (n + 1)
-early_more side N m p n here early q h =
-    ⊎_elim (λ same. subst (λ (x : ℕ). number_by side N p x ≤ m) (sym same) here) (λ apart. early q (omega arith)) (cases_eq q n)
+-- a known entry that is tested is early
+before_is : (o : Option ℕ) (m e : ℕ) → is_before o m ≡ true → o ≡ Some e → e < m
+before_is None m e h known = let z : ◌≡◌ {A = ℕ} 0 1 = cc in absurd (omega arith)
+before_is (Some x) m e h known = let same : x ≡ e = cc in omega (arith, ltb-true x m h)
 
-pub early_all : {W : Type 0} (T : Two W) (side : Side) (N : ℕ → ℕ → ℕ) (m p n : ℕ) → PairsWithin T N → (of_side T (other_side side)).states ≤ n → Early side N m p n → (q : ℕ) → number_by side N p q ≤ m
-early_all T side N m p n within most early q = at (number_by side N p q) refl
-  where
-    at : (x : ℕ) → number_by side N p q ≡ x → number_by side N p q ≤ m
-    at zero e = omega arith
-    at (suc x) e = early q (omega (arith, below_others T N within side p q x e))
+pub rested_by : {W : Type 0} (T : Two W) (side : Side) (N : ℕ → ℕ → Option ℕ) (m : ℕ) (ps : List ℕ) → PairsWithin T N → list_all (early_pairs side N m (of_side T (other_side side)).states) ps ≡ true → Rested side N m ps
+rested_by T side N m ps within h k l q e known =
+    let n = (of_side T (other_side side)).states in
+    let p = get_or ps k 0 in
+    let low : q < n = below_others T N within side p q e known in
+    let test = λ (i : ℕ). is_before (number_by side N p i) m in
+    let early : list_all test (range_with_len 0 n) ≡ true = holds_at (early_pairs side N m n) ps k 0 h l in
+    let here : test (get_or (range_with_len 0 n) q 0) ≡ true = holds_at test (range_with_len 0 n) q 0 early (omega (arith, length-range_with_len 0 n)) in
+    let there : get_or (range_with_len 0 n) q 0 ≡ q = get_or-range_with_len 0 n q 0 low ∙ (omega arith) in
+    before_is (number_by side N p q) m e (ap test (sym there) ∙ here) known
 
--- the states in the first n places
-abbrev pub RestedTo : Side → (ℕ → ℕ → ℕ) → ℕ → List ℕ → ℕ → Type 0
-RestedTo side N m ps n = (k : ℕ) → k < n → (q : ℕ) → number_by side N (get_or ps k 0) q ≤ m
-
-pub rested_more : (side : Side) (N : ℕ → ℕ → ℕ) (m : ℕ) (ps : List ℕ) (n p : ℕ) → p ≡ get_or ps n 0 → ((q : ℕ) → number_by side N p q ≤ m) → RestedTo side N m ps n → RestedTo side N m ps (n + 1)
-rested_more side N m ps n p p-is here rested k h q =
-    ⊎_elim (λ same. subst (λ (x : ℕ). number_by side N x q ≤ m) (p-is ∙ ap (λ i. get_or ps i 0) (sym same)) (here q)) (λ apart. rested k (omega arith) q) (cases_eq k n)
-
-pub rested_all : (side : Side) (N : ℕ → ℕ → ℕ) (m : ℕ) (ps : List ℕ) (n : ℕ) → RestedTo side N m ps n → Rested side N m (take n ps)
-rested_all side N m ps n rested k h q =
-    let low : k < n = omega (arith, length-take n ps) in
-    subst (λ (x : ℕ). number_by side N x q ≤ m) (sym (get_or-take n ps k 0 low)) (rested k low q)
-
-module _ {W : Type 0} (K : Weights W) (T : Two W) (R R' : Side → ℕ → Option (At W)) (N N' : ℕ → ℕ → ℕ) (len : ℕ) (grown : Grown R R' N N' len) where
-  known_by : (side : Side) (p q e : ℕ) → number_by side N p q ≡ suc e → (e < len) × (number_by side N' p q ≡ suc e)
+module _ {W : Type 0} (K : Weights W) (T : Two W) (R R' : Side → ℕ → Option (At W)) (N N' : ℕ → ℕ → Option ℕ) (len : ℕ) (grown : Grown R R' N N' len) where
+  known_by : (side : Side) (p q e : ℕ) → number_by side N p q ≡ Some e → (e < len) × (number_by side N' p q ≡ Some e)
   known_by First p q e h = grown.known p q e h
   known_by Second p q e h = grown.known q p e h
 
-  earlier_by : (side : Side) (p q e : ℕ) → number_by side N' p q ≡ suc e → e < len → number_by side N p q ≡ suc e
+  earlier_by : (side : Side) (p q e : ℕ) → number_by side N' p q ≡ Some e → e < len → number_by side N p q ≡ Some e
   earlier_by First p q e h = grown.earlier p q e h
   earlier_by Second p q e h = grown.earlier q p e h
 
   rested_before : (side : Side) (m : ℕ) (ps : List ℕ) → Rested side N' m ps → Rested side N m ps
-  rested_before side m ps rested k h q = at (number_by side N (get_or ps k 0) q) refl
-    where
-      at : (x : ℕ) → number_by side N (get_or ps k 0) q ≡ x → number_by side N (get_or ps k 0) q ≤ m
-      at zero e = omega arith
-      at (suc x) e = omega (arith, (known_by side (get_or ps k 0) q x e).1, rested k h q)
+  rested_before side m ps rested k h q e known = rested k h q e (known_by side (get_or ps k 0) q e known).1
 
   -- tuples over states with early pairs only were there before
   tuple_before : (side : Side) (m : ℕ) → m ≤ len → (ps es : List ℕ) → Rested side N' m ps → Tuple side N' ps es → Tuple side N ps es
@@ -65,8 +54,8 @@ module _ {W : Type 0} (K : Weights W) (T : Two W) (R R' : Side → ℕ → Optio
   tuple_before side m low (p ∷ ps) [] rested t = absurd t
   tuple_before side m low (p ∷ ps) (e ∷ es) rested t =
       let q = t.0.0 in
-      let early : number_by side N' p q ≤ m = rested 0 (omega arith) q in
-      ((q, earlier_by side p q e t.0.1 (omega (arith, early, t.0.1))), tuple_before side m low ps es (λ k h. rested (suc k) (omega arith)) t.1)
+      let early : e < m = rested 0 (omega arith) q e t.0.1 in
+      ((q, earlier_by side p q e t.0.1 (omega arith)), tuple_before side m low ps es (λ k h. rested (suc k) (omega arith)) t.1)
 
   tuple_runs : (side other : Side) (ps es : List ℕ) → Tuple side N ps es → map (R' other) es ≡ map (R other) es
   tuple_runs side other [] [] t = refl
@@ -87,7 +76,7 @@ module _ {W : Type 0} (K : Weights W) (T : Two W) (R R' : Side → ℕ → Optio
   rule_kept side r m low rested clear within live es tuple =
       let before = tuple_before side m low r.children es rested tuple in
       let s = r.symbol in
-      judged_same K R' N' (node_run K T R First s es) (node_run K T R' First s es) (node_run K T R Second s es) (node_run K T R' Second s es) Clear (run_same First before) (run_same Second before)
+      judged_same K R' N' (node_run K T R First s es) (node_run K T R' First s es) (node_run K T R Second s es) (node_run K T R' Second s es) None (run_same First before) (run_same Second before)
       (clears_kept (node_run K T R First s es) (node_run K T R Second s es) (clear within live es before))
     where
       run_same : (other : Side) → Tuple side N r.children es → node_run K T R other r.symbol es ≡ node_run K T R' other r.symbol es

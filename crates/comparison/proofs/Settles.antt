@@ -1,8 +1,8 @@
 -- Where every rule is clear, the known pairs are a complete exploration.
-use Rattle.std.proofs.Common.{◌≡◌, ℕ, suc, ◌-◌, ◌<◌, Bool, true, false, cond, ltb, List, [], ◌∷◌, map, length, Some, None, Option, sym, refl, ap, ◌∙◌, subst, arith}
+use Rattle.std.proofs.Common.{◌≡◌, ℕ, ◌<◌, Bool, true, false, cond, List, [], ◌∷◌, map, length, Some, None, Option, sym, refl, ap, ◌∙◌, subst, arith}
 use Rattle.std.specs.List.{ContainsAt}
 use Rattle.std.proofs.ByRecursion.{all_has_itself}
-use Rattle.std.proofs.lemmas.Bool.{ltb-true, lt-ltb}
+use Rattle.std.proofs.lemmas.Bool.{true≢false}
 use Rattle.kinds.specs.Weights.{Weights}
 use Rattle.automata.specs.Automata.{Transition, Automaton, find, Within, Sound}
 use Rattle.automata.specs.Runs.{At, beside, applied, step}
@@ -23,9 +23,23 @@ ratio_of K None y = K.one
 ratio_of K (Some a) None = K.one
 ratio_of K (Some a) (Some b) = K.times a.weight (K.inverse b.weight)
 
--- the pairs with a number, and the ratios of their entries
-abbrev pub explored : {W : Type 0} → Weights W → (Side → ℕ → Option (At W)) → (ℕ → ℕ → ℕ) → Exploration W
-explored K R N = record { found = λ p q. ltb 0 (N p q); ratio = λ p q. ratio_of K (R First (N p q - 1)) (R Second (N p q - 1)) }
+-- whether there is an entry, and the ratio of its run weights
+abbrev pub is_known : Option ℕ → Bool
+is_known None = false
+is_known (Some e) = true
+
+abbrev pub ratio_at : {W : Type 0} → Weights W → (Side → ℕ → Option (At W)) → Option ℕ → W
+ratio_at K R None = K.one
+ratio_at K R (Some e) = ratio_of K (R First e) (R Second e)
+
+-- the known pairs, and the ratios of their entries
+abbrev pub explored : {W : Type 0} → Weights W → (Side → ℕ → Option (At W)) → (ℕ → ℕ → Option ℕ) → Exploration W
+explored K R N = record { found = λ p q. is_known (N p q); ratio = λ p q. ratio_at K R (N p q) }
+
+-- the entry that there is
+some_known : (o : Option ℕ) → is_known o ≡ true → (e : ℕ) × (o ≡ Some e)
+some_known None h = absurd (true≢false (sym h))
+some_known (Some e) h = (e, refl)
 
 -- a run to a live state
 pub to_live_some : {W : Type 0} (live : ℕ → Bool) (o : Option (At W)) (a : At W) → to_live live o ≡ Some a → (o ≡ Some a) × (live a.state ≡ true)
@@ -53,14 +67,14 @@ applied_some K w None a e = let z : ◌≡◌ {A = ℕ} 0 1 = cc in absurd (omeg
 applied_some K w (Some r) a e = (r, refl, cc)
 
 -- both runs are there if one is
-clears_first : {W : Type 0} (K : Weights W) (R : Side → ℕ → Option (At W)) (N : ℕ → ℕ → ℕ) (x y : Option (At W)) (a : At W) → x ≡ Some a → Clears K R N x y → (b : At W) × (y ≡ Some b) × (e : ℕ) × (N a.state b.state ≡ suc e) × Even K R e a.weight b.weight
+clears_first : {W : Type 0} (K : Weights W) (R : Side → ℕ → Option (At W)) (N : ℕ → ℕ → Option ℕ) (x y : Option (At W)) (a : At W) → x ≡ Some a → Clears K R N x y → (b : At W) × (y ≡ Some b) × (e : ℕ) × (N a.state b.state ≡ Some e) × Even K R e a.weight b.weight
 clears_first K R N None y a h c = let z : ◌≡◌ {A = ℕ} 0 1 = cc in absurd (omega arith)
 clears_first K R N (Some x) None a h c = absurd c
 clears_first K R N (Some x) (Some b) a h c =
     let s : x ≡ a = cc in
-    subst (λ (z : At _). (d : At _) × (Some b ≡ Some d) × (e : ℕ) × (N z.state d.state ≡ suc e) × Even K R e z.weight d.weight) s (b, refl, c.0, c.1, c.2)
+    subst (λ (z : At _). (d : At _) × (Some b ≡ Some d) × (e : ℕ) × (N z.state d.state ≡ Some e) × Even K R e z.weight d.weight) s (b, refl, c.0, c.1, c.2)
 
-clears_second : {W : Type 0} (K : Weights W) (R : Side → ℕ → Option (At W)) (N : ℕ → ℕ → ℕ) (x y : Option (At W)) (b : At W) → y ≡ Some b → Clears K R N x y → (a : At W) × (x ≡ Some a)
+clears_second : {W : Type 0} (K : Weights W) (R : Side → ℕ → Option (At W)) (N : ℕ → ℕ → Option ℕ) (x y : Option (At W)) (b : At W) → y ≡ Some b → Clears K R N x y → (a : At W) × (x ≡ Some a)
 clears_second K R N None None b h c = let z : ◌≡◌ {A = ℕ} 0 1 = cc in absurd (omega arith)
 clears_second K R N None (Some y) b h c = absurd c
 clears_second K R N (Some a) y b h c = (a, refl)
@@ -79,23 +93,22 @@ module _ {W : Type 0} (K : Weights W) where
       (exchange K d s w y ∙ ap (λ z. K.times (K.times d w) z) (K.comm s y) ∙ exchange K d w y s ∙ ap (λ z. K.times z (K.times w s)) (sym x_is) ∙ sym even
       ∙ ap (λ z. K.times (K.times z r) y) v-is ∙ ap (λ z. K.times z y) (K.assoc c w r ∙ ap (K.times c) (K.comm w r) ∙ sym (K.assoc c r w)) ∙ K.assoc (K.times c r) w y)
 
-  module _ (T : Two W) (R : Side → ℕ → Option (At W)) (N : ℕ → ℕ → ℕ) (base len : ℕ) (pairing : Pairing T R N base len) where
+  module _ (T : Two W) (R : Side → ℕ → Option (At W)) (N : ℕ → ℕ → Option ℕ) (base len : ℕ) (pairing : Pairing T R N base len) where
     abbrev E : Exploration W
     E = explored K R N
 
-    known : (p q : ℕ) → E.found p q ≡ true → N p q ≡ suc (N p q - 1)
-    known p q e = omega (arith, ltb-true 0 (N p q) e)
+    known : (p q : ℕ) → E.found p q ≡ true → (e : ℕ) × (N p q ≡ Some e)
+    known p q e = some_known (N p q) e
 
-    entry_of : (p q : ℕ) → E.found p q ≡ true → Entry T R (N p q - 1) p q
-    entry_of p q e = (pairing.numbered p q (N p q - 1) (known p q e)).2
+    entry_of : (p q : ℕ) (e : E.found p q ≡ true) → Entry T R (known p q e).0 p q
+    entry_of p q e = (pairing.numbered p q (known p q e).0 (known p q e).1).2
 
-    found_of : (p q e : ℕ) → N p q ≡ suc e → E.found p q ≡ true
-    found_of p q e h = lt-ltb 0 (N p q) (omega arith)
+    found_of : (p q e : ℕ) → N p q ≡ Some e → E.found p q ≡ true
+    found_of p q e h = ap is_known h
 
-    ratio_is : (p q e : ℕ) (entry : Entry T R e p q) → N p q ≡ suc e → E.ratio p q ≡ K.times entry.first_weight (K.inverse entry.second_weight)
+    ratio_is : (p q e : ℕ) (entry : Entry T R e p q) → N p q ≡ Some e → E.ratio p q ≡ K.times entry.first_weight (K.inverse entry.second_weight)
     ratio_is p q e entry h =
-        let same : N p q - 1 ≡ e = omega arith in
-        ap (λ i. ratio_of K (R First i) (R Second i)) same
+        ap (ratio_at K R) h
         ∙ ap (λ o. ratio_of K o (R Second e)) entry.first_run
         ∙ ap (ratio_of K (Some (record { state = p; weight = entry.first_weight }))) entry.second_run
 
@@ -115,22 +128,22 @@ module _ {W : Type 0} (K : Weights W) where
     met_row [] (q ∷ qs) h = absurd h
     met_row (p ∷ ps) [] h = absurd h
     met_row (p ∷ ps) (q ∷ qs) h =
-        let e = N p q - 1 in
+        let e = (known p q h.0).0 in
         let entry = entry_of p q h.0 in
         let rest = met_row ps qs h.1 in
         let a : At W = record { state = p; weight = entry.first_weight } in
         let b : At W = record { state = q; weight = entry.second_weight } in
         record {
           es = e ∷ rest.es;
-          first_tuple = ((q, known p q h.0), rest.first_tuple);
-          second_tuple = ((p, known p q h.0), rest.second_tuple);
+          first_tuple = ((q, (known p q h.0).1), rest.first_tuple);
+          second_tuple = ((p, (known p q h.0).1), rest.second_tuple);
           v = K.times entry.first_weight rest.v;
           w = K.times entry.second_weight rest.w;
           first_row = ap (λ o. beside K o (row_runs K (map (R First) rest.es))) entry.first_run ∙ ap (beside K (Some a)) rest.first_row;
           second_row = ap (λ o. beside K o (row_runs K (map (R Second) rest.es))) entry.second_run ∙ ap (beside K (Some b)) rest.second_row;
           weighs =
               let one : entry.first_weight ≡ K.times (E.ratio p q) entry.second_weight =
-              ratio_back entry.first_weight entry.second_weight ∙ ap (λ z. K.times z entry.second_weight) (sym (ratio_is p q e entry (known p q h.0))) in
+              ratio_back entry.first_weight entry.second_weight ∙ ap (λ z. K.times z entry.second_weight) (sym (ratio_is p q e entry (known p q h.0).1)) in
               let two = rest.weighs in
               let three = exchange K (E.ratio p q) entry.second_weight (ratios K E ps qs) rest.w in
               cc;
@@ -175,10 +188,10 @@ module _ {W : Type 0} (K : Weights W) where
           let both = clears_first K R N (node_run K T R First s row.es) (node_run K T R Second s row.es) (record { state = r.target; weight = K.times row.v r.weight }) (ran T.first T.first_live (R First) s row.es ps row.v r row.first_row there flag) clears in
           answered row both.0 both.2 both.3 both.4 (comes T.second T.second_live (R Second) s row.es qs row.w both.0 row.second_row both.1)
         where
-          answered : (row : MetRow ps qs) (b : At W) (e : ℕ) → N r.target b.state ≡ suc e → Even K R e (K.times row.v r.weight) b.weight → Comes T.second T.second_live s qs row.w b → Answered K T.second E s ps qs r
+          answered : (row : MetRow ps qs) (b : At W) (e : ℕ) → N r.target b.state ≡ Some e → Even K R e (K.times row.v r.weight) b.weight → Comes T.second T.second_live s qs row.w b → Answered K T.second E s ps qs r
           answered row b e number even come =
               let o = come.rule in
-              let number' : N r.target o.target ≡ suc e = ap (λ (x : At W). N r.target x.state) (sym come.is) ∙ number in
+              let number' : N r.target o.target ≡ Some e = ap (λ (x : At W). N r.target x.state) (sym come.is) ∙ number in
               let entry = (pairing.numbered r.target o.target e number').2 in
               let even' : K.times (K.times row.v r.weight) entry.second_weight ≡ K.times entry.first_weight (K.times row.w o.weight) =
               even (record { state = r.target; weight = entry.first_weight }) (record { state = o.target; weight = entry.second_weight }) entry.first_run entry.second_run ∙ ap (λ (x : At W). K.times entry.first_weight x.weight) come.is in
@@ -207,5 +220,5 @@ module _ {W : Type 0} (K : Weights W) where
         agree = λ p q e. (entry_of p q e).agree;
         agree_one = λ p q e accepts.
             let entry = entry_of p q e in
-            ratio_is p q (N p q - 1) entry (known p q e) ∙ ap (λ z. K.times z (K.inverse entry.second_weight)) (entry.agree_one accepts) ∙ K.cancel entry.second_weight;
+            ratio_is p q (known p q e).0 entry (known p q e).1 ∙ ap (λ z. K.times z (K.inverse entry.second_weight)) (entry.agree_one accepts) ∙ K.cancel entry.second_weight;
       }

@@ -1,33 +1,18 @@
 -- Testing whether rules are sound, one behind the other.
 use Rattle.std.proofs.Common.{◌≡◌, ℕ, zero, suc, ◌+◌, ◌<◌, ◌≤◌, Bool, true, false, cond, List, [], ◌∷◌, ◌++◌, map, length, get_or, take, Some, None, Decides, sym, refl, ap, ◌∙◌, subst, arith}
 use Rattle.std.specs.List.{AllByRecursion, slice_get}
-use Rattle.std.proofs.ByRecursion.{All-push, All-get_or, All-from_get_or}
-use Rattle.std.proofs.lemmas.List.{length-take, length-take-le, get_or-take, take_more, take_all, take-map, map_push}
+use Rattle.std.proofs.ByRecursion.{All-push}
+use Rattle.std.proofs.lemmas.List.{take_more, take_all, take-map, map_push}
 use Rattle.std.proofs.lemmas.Bool.{both_ways, false≢true}
-use Rattle.automata.specs.Trees.{rank}
 use Rattle.automata.specs.Automata.{Transition, fits_left, find, Within, Single, Sound}
 use Rattle.automata.proofs.Finds.{fits_symbol, fits_children}
-use Rattle.trees.proofs.Ranks.{rank_small}
 use Rattle.rules.specs.declared.rule.Rule.{Rule}
 use Rattle.rules.specs.declared.shape.Shape.{Shape}
 use Rattle.rules.specs.Shapes.{ranks_in, states_in, transition, automaton}
 use Rattle.rules.proofs.Books.{single_push}
-use Rattle.liveness.specs.Reaching.{children_in}
 use Rattle.liveness.proofs.Derivations.{nth_mapped}
 use Rattle.liveness.proofs.Reaches.{all_nth, find_itself}
 use Rattle.comparison.specs.Soundness.{Next}
-
--- whether the first n of some numbers are below a bound, tested one by one
-module _ (bound : ℕ) (qs : List ℕ) (m n : ℕ) (same : m ≡ n) (short : n ≤ length qs) where
-  pub one_past : (k : ℕ) → k < m → bound ≤ get_or qs k 0 → Decides false (AllByRecursion (λ q. q < bound) (take n qs))
-  one_past k h past =
-      let l = length-take n qs in
-      ((λ e. absurd (false≢true e)), (λ all. absurd (omega (arith, get_or-take n qs k 0 (omega arith), All-get_or (λ q. q < bound) (take n qs) k 0 (omega arith) all))))
-
-  pub each_below : ((k : ℕ) → k < m → get_or qs k 0 < bound) → Decides true (AllByRecursion (λ q. q < bound) (take n qs))
-  each_below low =
-      let l = length-take n qs in
-      ((λ e. All-from_get_or (λ q. q < bound) (take n qs) 0 (λ k h. omega (arith, get_or-take n qs k 0 (omega arith), low k (omega arith)))), (λ all. refl))
 
 module _ {W : Type 0} where
   -- no rule before another has its left side
@@ -44,18 +29,6 @@ module _ {W : Type 0} where
           let there = find_itself ts i t s.1 e in
           let z : ◌≡◌ {A = ℕ} 0 1 = cc in absurd (omega arith)
       at false f ih = ih
-
--- the symbol and the target are the shape's, and the children are tested
-pub within_by : {V W : Type 0} (stands : V → W) (shape : Shape) (rule : Rule V) (r : Bool) → length rule.left.children ≡ 4 → rule.left.symbol < length (ranks_in shape) → rule.target < states_in shape → Decides r (AllByRecursion (λ q. q < states_in shape) (children_in shape rule.left)) → Decides r (Within (ranks_in shape) (states_in shape) (transition stands (ranks_in shape) rule))
-within_by stands shape rule r four symbol target below = (
-  (λ e. record {
-    symbol_within = symbol;
-    children_rank = length-take-le (rank (ranks_in shape) rule.left.symbol) rule.left.children (omega (arith, rank_small shape.measure.alphabet rule.left.symbol));
-    children_within = below.0 e;
-    target_within = target;
-  }),
-  (λ w. below.1 w.children_within),
-)
 
 -- the rule x at the place i, behind the first j rules
 module _ {V W : Type 0} (stands : V → W) (shape : Shape) (rules : List (Rule V)) (i j : ℕ) (same : j ≡ i) (x : Rule V) (low : i < length rules) (is : x ≡ get_or rules i x) where

@@ -1,4 +1,5 @@
 -- What a survey of one side knows, and what it still knows while entries are added.
+use Rattle.liveness.specs.Listings.{flags_of}
 use Rattle.std.proofs.Common.{◌≡◌, ℕ, ◌≤◌, List, take}
 use Rattle.kinds.specs.Weights.{Weights}
 use Rattle.automata.specs.Automata.{Automaton, Sound}
@@ -31,5 +32,5 @@ module _ {V W : Type 0} (K : Weights W) (stands : V → W) (A B : Automaton W) (
     known_still work' len' same more = record {
       reached = k.reached;
       lively = k.lively;
-      enters = enters_still work work' len same stands side (Flagged s.reach.reached) s.access.entry len' more k.enters;
+      enters = enters_still work work' len same stands side (Flagged (flags_of s.reach)) s.access.entry len' more k.enters;
     }

@@ -10,11 +10,10 @@ use Rattle.automata.specs.Comparing.{Witness}
 use Rattle.automata.proofs.Witnesses.{failing}
 use Rattle.trees.proofs.Ranks.{rank_small}
 use Rattle.rules.specs.declared.place.Place.{Place}
-use Rattle.rules.specs.declared.rule.Rule.{Rule}
-use Rattle.rules.specs.declared.shape.Shape.{Shape}
+use Rattle.rules.specs.declared.table.Table.{Table}
 use Rattle.rules.specs.declared.side.Side.TheVariants.{First, Second}
 use Rattle.rules.specs.Running.{run_at}
-use Rattle.rules.specs.Shapes.{ranks_in, automaton}
+use Rattle.rules.specs.Shapes.{ranks_in, automaton_of}
 use Rattle.comparison.specs.declared.climbed.Climbed.{Climbed}
 use Rattle.comparison.specs.declared.survey.Survey.{Survey}
 use Rattle.comparison.specs.Differing.{weight_by}
@@ -52,12 +51,12 @@ module _ {V W : Type 0} (K : Weights W) (stands : V → W) (A B : Automaton W) (
   pub apart_runs : Apart → ApartBy stands A B work i
   apart_runs apart e = apart (sym (first_weight K stands A B work len f i h) ∙ e ∙ second_same)
 
-module _ {V W : Type 0} (K : Weights W) (stands : V → W) (first second : Shape) (first_rules second_rules : List (Rule V)) (s : Survey) (work : List (Place V)) (len entry other : ℕ) (m : Matched (automaton stands first first_rules) (automaton stands second second_rules)) (f : Forest K stands (automaton stands first first_rules) (automaton stands second second_rules) work len) (k : Known stands (automaton stands first first_rules) (automaton stands second second_rules) First s work len) (low : entry < len) (other_low : other < len) (ratios : TwoRatios K (live_in s.life) (runs_in stands work) entry other) where
+module _ {V W : Type 0} (K : Weights W) (stands : V → W) (first second : Table V) (s : Survey) (work : List (Place V)) (len entry other : ℕ) (m : Matched (automaton_of stands first) (automaton_of stands second)) (f : Forest K stands (automaton_of stands first) (automaton_of stands second) work len) (k : Known stands (automaton_of stands first) (automaton_of stands second) First s work len) (low : entry < len) (other_low : other < len) (ratios : TwoRatios K (live_in s.life) (runs_in stands work) entry other) where
   abbrev A : Automaton W
-  A = automaton stands first first_rules
+  A = automaton_of stands first
 
   abbrev B : Automaton W
-  B = automaton stands second second_rules
+  B = automaton_of stands second
 
   -- after the climb from the first entry
   module _ (work₁ : List (Place V)) (r₁ : Climbed) (climbs₁ : ClimbsOn K stands A B First s.life s.access work len entry work₁ r₁) where
@@ -69,7 +68,7 @@ module _ {V W : Type 0} (K : Weights W) (stands : V → W) (first second : Shape
 
     pub ready_again : length work₁ ≡ length work → len + A.states + A.states ≤ length work + 1 → Prepared K stands A B First s.reach work₁ r₁.len × (Climbable stands A B First s.reach s.life s.access work₁ r₁.len other × EndsLive stands First s.life work₁ other)
     ready_again long room =
-        ready K stands first second first_rules second_rules First s work₁ r₁.len other m c₁.forest
+        ready K stands first second First s work₁ r₁.len other m c₁.forest
         (known_still K stands A B m First s work len k work₁ r₁.len c₁.same c₁.longer)
         (omega (arith, c₁.longer)) (omega (arith, c₁.few, k.lively.listed.bounded))
         (record { state = ratios.p; weight = ratios.x }, other_run ∙ ratios.first_other, ratios.is_live)
@@ -80,29 +79,29 @@ module _ {V W : Type 0} (K : Weights W) (stands : V → W) (first second : Shape
       c₂ = climbs₂ (record { state = ratios.p; weight = ratios.x }) (other_run ∙ ratios.first_other)
 
       abbrev t : Tree
-      t = tree_in (ranks_in first) work len entry
+      t = tree_in (ranks_in first.shape.now) work len entry
 
       abbrev u : Tree
-      u = tree_in (ranks_in first) work len other
+      u = tree_in (ranks_in first.shape.now) work len other
 
       abbrev way : Context
-      way = path A s.life (access_trees (ranks_in first) work len s.access) 48 ratios.p
+      way = path A s.life (access_trees (ranks_in first.shape.now) work len s.access) 48 ratios.p
 
-      first_tree : tree_in (ranks_in first) work₂ r₂.len r₁.top ≡ plug way t
-      first_tree = older_tree work₁ work₂ r₁.len c₂.same (ranks_in first) r₂.len c₂.longer c₂.forest.room r₁.top c₁.top_below ∙ c₁.tree
+      first_tree : tree_in (ranks_in first.shape.now) work₂ r₂.len r₁.top ≡ plug way t
+      first_tree = older_tree work₁ work₂ r₁.len c₂.same (ranks_in first.shape.now) r₂.len c₂.longer c₂.forest.room r₁.top c₁.top_below ∙ c₁.tree
 
-      second_tree : tree_in (ranks_in first) work₂ r₂.len r₂.top ≡ plug way u
+      second_tree : tree_in (ranks_in first.shape.now) work₂ r₂.len r₂.top ≡ plug way u
       second_tree =
           c₂.tree
           ∙ ap₂ plug
-          (path_same A s.reach s.life k.lively (access_trees (ranks_in first) work₁ r₁.len s.access) (access_trees (ranks_in first) work len s.access)
-          (λ q h. older_tree work work₁ len c₁.same (ranks_in first) r₁.len c₁.longer c₁.forest.room (get_or s.access.entry q 0) (k.enters.below q h)) 48 ratios.p ratios.is_live)
-          (older_tree work work₁ len c₁.same (ranks_in first) r₁.len c₁.longer c₁.forest.room other other_low)
+          (path_same A s.reach s.life k.lively (access_trees (ranks_in first.shape.now) work₁ r₁.len s.access) (access_trees (ranks_in first.shape.now) work len s.access)
+          (λ q h. older_tree work work₁ len c₁.same (ranks_in first.shape.now) r₁.len c₁.longer c₁.forest.room (get_or s.access.entry q 0) (k.enters.below q h)) 48 ratios.p ratios.is_live)
+          (older_tree work work₁ len c₁.same (ranks_in first.shape.now) r₁.len c₁.longer c₁.forest.room other other_low)
 
       one_apart : Witness K A B (plug way t) ⊎ Witness K A B (plug way u)
       one_apart =
-          let sign = access_sign K stands first second first_rules second_rules First s.reach s.life s.access work len (known_prepared K stands A B m First s work len k f) k.lively k.enters ratios.p ratios.is_live in
-          let over = forest_over K stands A B work len (rank_small first.measure.alphabet) f in
+          let sign = access_sign K stands first second First s.reach s.life s.access work len (known_prepared K stands A B m First s work len k f) k.lively k.enters ratios.p ratios.is_live in
+          let over = forest_over K stands A B work len (rank_small first.shape.now.measure.alphabet) f in
           subst (λ d. Witness K A B (plug d t) ⊎ Witness K A B (plug d u)) sign.1
           ((failing K A B m.alphabet).uneven t u ratios.p ratios.q ratios.v ratios.w ratios.x ratios.y sign.0 (over entry low) (over other other_low)
           (sym (f.first_runs entry low) ∙ ratios.first_run) (sym (side_run A B m.alphabet K stands work len f Second entry low) ∙ ratios.second_run)

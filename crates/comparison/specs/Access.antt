@@ -1,4 +1,5 @@
 -- Access trees: for every state that is reached, an entry of a forest whose tree runs to it.
+use Rattle.liveness.specs.Listings.{flags_of}
 use Rattle.std.specs.Prelude.{◌≡◌, ℕ, ◌+◌, ◌<◌, ◌≤◌, List, length, take, Some, slice_index}
 use Rattle.kinds.specs.Weights.{Weights}
 use Rattle.automata.specs.Trees.{rank}
@@ -9,7 +10,7 @@ use Rattle.rules.specs.declared.place.Place.{Place}
 use Rattle.rules.specs.declared.side.Side.{Side}
 use Rattle.rules.specs.declared.side.Side.TheVariants.{First, Second}
 use Rattle.rules.specs.Running.{run_at}
-use Rattle.liveness.specs.declared.reach.Reach.{Reach}
+use Rattle.liveness.specs.Listings.{Reach}
 use Rattle.liveness.specs.Listings.{Flagged}
 use Rattle.liveness.specs.Reaching.{Reached}
 use Rattle.comparison.specs.Forest.{Forest}
@@ -44,4 +45,4 @@ pub record Accessed {V W : Type 0} (K : Weights W) (stands : V → W) (A B : Aut
   pub more : r.len ≡ len + R.count
   pub forest : Forest K stands A B after r.len
   pub same : take len after ≡ take len before
-  pub enters : Enters stands side (Flagged R.reached) after r.len r.entry
+  pub enters : Enters stands side (Flagged (flags_of R)) after r.len r.entry

@@ -1,4 +1,6 @@
 -- The context that takes a live state to an accepting one, rule by rule.
+use Rattle.liveness.specs.Living.{lead_of}
+use Rattle.liveness.specs.Listings.{flags_of}
 use Rattle.std.specs.Prelude.{◌≡◌, ℕ, zero, suc, ◌+◌, ◌<◌, ◌≤◌, cond, List, [], ◌∷◌, length, take, drop, Some, None, Option, slice_index}
 use Rattle.std.specs.List.{slice_get}
 use Rattle.kinds.specs.Weights.{Weights}
@@ -9,8 +11,8 @@ use Rattle.automata.specs.Contexts.{Context, hole, under, plug}
 use Rattle.rules.specs.declared.place.Place.{Place}
 use Rattle.rules.specs.declared.side.Side.{Side}
 use Rattle.rules.specs.Running.{run_at}
-use Rattle.liveness.specs.declared.reach.Reach.{Reach}
-use Rattle.liveness.specs.declared.life.Life.{Life}
+use Rattle.liveness.specs.Listings.{Reach}
+use Rattle.liveness.specs.Living.{Life}
 use Rattle.liveness.specs.Listings.{Flagged}
 use Rattle.liveness.specs.Living.{Lively}
 use Rattle.comparison.specs.Forest.{tree_in, Forest}
@@ -36,7 +38,7 @@ led_by onward (Some r) c = onward r
 abbrev pub path_over : {W : Type 0} → Automaton W → Life → (ℕ → Tree) → ℕ → ℕ → Context → Context
 path_over A L trees zero x c = c
 path_over A L trees (suc fuel) x c =
-    cond (A.accepting x) c (led_by (λ r. path_over A L trees fuel r.target (within_rule trees r (slice_index L.place x) c)) (slice_get A.rules (slice_index L.rule x)) c)
+    cond (A.accepting x) c (led_by (λ r. path_over A L trees fuel r.target (within_rule trees r (lead_of L x).place c)) (slice_get A.rules (lead_of L x).rule) c)
 
 abbrev pub path : {W : Type 0} → Automaton W → Life → (ℕ → Tree) → ℕ → ℕ → Context
 path A L trees fuel x = path_over A L trees fuel x hole
@@ -44,13 +46,13 @@ path A L trees fuel x = path_over A L trees fuel x hole
 -- the live states of one side are known, every state that is reached has its entry, and there is room to climb from an entry
 pub record Climbable {V W : Type 0} (stands : V → W) (A B : Automaton W) (side : Side) (R : Reach) (L : Life) (access : Access) (work : List (Place V)) (len entry : ℕ) : Type 0 where
   pub lively : Lively (sided side A B) R L
-  pub enters : Enters stands side (Flagged R.reached) work len access.entry
+  pub enters : Enters stands side (Flagged (flags_of R)) work len access.entry
   pub below : entry < len
   pub room : len + L.count ≤ length work + 1
 
 -- the run of the entry ends in a live state
 abbrev pub EndsLive : {V W : Type 0} → (V → W) → Side → Life → List (Place V) → ℕ → Type 0
-EndsLive {W = W} stands side L work entry = (a : At W) × (run_at stands side work entry ≡ Some a) × Flagged L.live a.state
+EndsLive {W = W} stands side L work entry = (a : At W) × (run_at stands side work entry ≡ Some a) × Flagged (flags_of L) a.state
 
 -- the access trees, by the entries of states
 abbrev pub access_trees : {V : Type 0} → List ℕ → List (Place V) → ℕ → Access → ℕ → Tree

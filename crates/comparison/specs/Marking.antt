@@ -1,5 +1,5 @@
 -- Marks on the entries of a work list: which entries a tree uses, and their numbers once only those are written.
-use Rattle.std.specs.Prelude.{◌≡◌, ℕ, ◌+◌, ◌-◌, ◌<◌, ◌≤◌, List, [], ◌∷◌, map, length, slice_index, slice_index_or, slice_set}
+use Rattle.std.specs.Prelude.{◌≡◌, ℕ, ◌+◌, ◌-◌, ◌<◌, ◌≤◌, List, [], ◌∷◌, map, length, Some, None, Option, slice_index, slice_index_or, slice_set}
 use Rattle.std.specs.List.{ContainsAt, AllByRecursion}
 use Rattle.automata.specs.Trees.{rank}
 use Rattle.trees.specs.declared.node.Node.{Node}
@@ -7,12 +7,17 @@ use Rattle.trees.specs.Lists.{blank, children_of, GoodAt}
 use Rattle.rules.specs.declared.place.Place.{Place}
 use Rattle.comparison.specs.Forest.{nodes}
 
+-- 0 for no mark, and one more than the number for a mark with a number
+abbrev pub sign : Option ℕ → ℕ
+sign None = 0
+sign (Some n) = n + 1
+
 abbrev pub marks : {V : Type 0} → List (Place V) → List ℕ
-marks work = map (λ p. p.mark) work
+marks work = map (λ p. sign p.mark) work
 
 -- all that a place holds but its mark
 abbrev pub unmarked : {V : Type 0} → Place V → Place V
-unmarked p = record { node = p.node; first = p.first; second = p.second; mark = 0 }
+unmarked p = record { node = p.node; first = p.first; second = p.second; mark = None }
 
 -- the work list differs in its marks alone
 abbrev pub Kept : {V : Type 0} → List (Place V) → List (Place V) → Type 0

@@ -1,4 +1,5 @@
 -- What is known of the table on one side before a search.
+use Rattle.liveness.specs.Listings.{flags_of}
 use Rattle.std.specs.Prelude.{◌≡◌, ℕ, ◌+◌, ◌≤◌, List, take}
 use Rattle.kinds.specs.Weights.{Weights}
 use Rattle.automata.specs.Automata.{Automaton, Sound}
@@ -21,7 +22,7 @@ pub record Matched {W : Type 0} (A B : Automaton W) : Type 0 where
 pub record Known {V W : Type 0} (stands : V → W) (A B : Automaton W) (side : Side) (s : Survey) (work : List (Place V)) (len : ℕ) : Type 0 where
   pub reached : Reached (sided side A B) s.reach
   pub lively : Lively (sided side A B) s.reach s.life
-  pub enters : Enters stands side (Flagged s.reach.reached) work len s.access.entry
+  pub enters : Enters stands side (Flagged (flags_of s.reach)) work len s.access.entry
 
 -- what surveying one side behind the first len entries answers and leaves
 pub record Surveyed {V W : Type 0} (K : Weights W) (stands : V → W) (A B : Automaton W) (side : Side) (before : List (Place V)) (len : ℕ) (after : List (Place V)) (r : Survey) : Type 0 where

@@ -8,7 +8,7 @@ use Rattle.rules.specs.declared.place.Place.{Place}
 use Rattle.rules.specs.declared.side.Side.{Side}
 use Rattle.rules.specs.declared.side.Side.TheVariants.{First, Second}
 use Rattle.rules.specs.Running.{run_at}
-use Rattle.liveness.specs.declared.life.Life.{Life}
+use Rattle.liveness.specs.Living.{Life}
 use Rattle.comparison.specs.declared.survey.Survey.{Survey}
 use Rattle.comparison.specs.Forest.{tree_in, Forest}
 use Rattle.comparison.specs.Access.{sided}

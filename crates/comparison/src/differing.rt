@@ -6,6 +6,7 @@ ghost use Rattle.rules.specs.Running.{at_of, run_at};
 ghost use Rattle.rules.specs.declared.side.Side.TheVariants.{First, Second};
 ghost use Rattle.comparison.specs.Differing.{weight_by};
 
+use crate::two_tables::TwoTables;
 use kinds::Kind;
 use rules::{Place, Run, Shape, Side, run_of};
 
@@ -33,10 +34,10 @@ fn are_same<W: Kind>(first: Option<W>, second: Option<W>) -> bool
 }
 
 // Whether the two tables weigh the tree of an entry differently, by its two runs.
-pub fn differs<W: Kind>(first: &Shape, second: &Shape, work: &[Place<W>], entry: usize) -> bool
-    ensures { (result ≡ true) ↔ (weight_by (accepts_in first.now) (run_at W.Kind.stands First work.now entry) ≢ weight_by (accepts_in second.now) (run_at W.Kind.stands Second work.now entry)) }
+pub fn differs<W: Kind>(tables: &TwoTables<W>, work: &[Place<W>], entry: usize) -> bool
+    ensures { (result ≡ true) ↔ (weight_by (accepts_in tables.now.first.shape.now) (run_at W.Kind.stands First work.now entry) ≢ weight_by (accepts_in tables.now.second.shape.now) (run_at W.Kind.stands Second work.now entry)) }
 {
-    let first_weight = weight_by(first, run_of(work, Side::First, entry));
-    let second_weight = weight_by(second, run_of(work, Side::Second, entry));
+    let first_weight = weight_by(tables.first.shape, run_of(work, Side::First, entry));
+    let second_weight = weight_by(tables.second.shape, run_of(work, Side::Second, entry));
     !are_same(first_weight, second_weight)
 }

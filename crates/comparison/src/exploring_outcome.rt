@@ -1,10 +1,8 @@
-// How a search through the pairs of states that one tree has in two tables ends. Entries are those of the work list.
+// How two tables were told apart by a search through the pairs of states that one tree has in both. Entries are those of the work list.
 use rules::Side;
 
 #[derive(Clone, Copy)]
 pub enum Outcome {
-    // every tree weighs the same in both
-    Settled,
     // the tables weigh the tree of the entry differently
     Differs { entry: usize },
     // the tree of the entry has a live state on this side only

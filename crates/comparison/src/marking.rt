@@ -4,15 +4,15 @@ ghost use Rattle.std.specs.List.{AllByRecursion};
 ghost use Rattle.trees.specs.Lists.{blank, children_of};
 ghost use Rattle.rules.specs.Shapes.{ranks_in};
 ghost use Rattle.comparison.specs.Forest.{nodes};
-ghost use Rattle.comparison.specs.Marking.{marks, Kept, Entries, marked_at, number, Marking};
+ghost use Rattle.comparison.specs.Marking.{sign, marks, Kept, Entries, marked_at, number, Marking};
 
 use kinds::Kind;
 use rules::{Place, Shape};
 use trees::Node;
 
-fn mark_of<W: Kind>(work: &[Place<W>], entry: usize) -> usize
+fn mark_of<W: Kind>(work: &[Place<W>], entry: usize) -> Option<usize>
     requires { entry < length work.now }
-    ensures { result ≡ slice_index (marks work.now) entry }
+    ensures { sign result ≡ slice_index (marks work.now) entry }
 {
     work[entry].mark
 }
@@ -21,15 +21,15 @@ pub(crate) fn is_marked<W: Kind>(work: &[Place<W>], entry: usize) -> bool
     requires { entry < length work.now }
     ensures { (result ≡ true) ↔ (0 < slice_index (marks work.now) entry) }
 {
-    mark_of(work, entry) > 0
+    mark_of(work, entry).is_some()
 }
 
 // The number of a marked entry.
-pub(crate) fn number_of<W: Kind>(work: &[Place<W>], entry: usize) -> usize
-    requires { (0 < slice_index (marks work.now) entry) × (entry < length work.now) }
+pub(crate) fn entry_number<W: Kind>(work: &[Place<W>], entry: usize) -> usize
+    requires { entry < length work.now }
     ensures { result ≡ number (marks work.now) entry }
 {
-    mark_of(work, entry) - 1
+    mark_of(work, entry).unwrap_or(0)
 }
 
 pub(crate) fn node_of<W: Kind>(work: &[Place<W>], entry: usize) -> Node
@@ -40,9 +40,9 @@ pub(crate) fn node_of<W: Kind>(work: &[Place<W>], entry: usize) -> Node
 }
 
 // Sets the mark of an entry.
-pub(crate) fn put_mark<W: Kind>(work: &mut [Place<W>], entry: usize, mark: usize)
+pub(crate) fn put_mark<W: Kind>(work: &mut [Place<W>], entry: usize, mark: Option<usize>)
     requires { entry < length work.old }
-    ensures marks { marks work.new ≡ slice_set (marks work.old) entry mark }
+    ensures marks { marks work.new ≡ slice_set (marks work.old) entry (sign mark) }
     ensures kept { Kept work.old work.new }
 {
     work[entry].mark = mark;
@@ -54,8 +54,8 @@ fn clear<W: Kind>(work: &mut [Place<W>], top: usize)
     ensures none { (i : ℕ) → i < top → slice_index (marks work.new) i ≡ 0 }
     ensures kept { Kept work.old work.new }
 {
-    for i in 0..top {
-        put_mark(work, i, 0);
+    for place in &mut work[..top] {
+        place.mark = None;
     }
 }
 
@@ -65,9 +65,8 @@ fn mark_children<W: Kind>(shape: &Shape, work: &mut [Place<W>], node: &Node)
     ensures marks { marks work.new ≡ marked_at (marks work.old) (children_of (ranks_in shape.now) node.now) }
     ensures kept { Kept work.old work.new }
 {
-    let rank = shape.rank(node.symbol);
-    for k in 0..rank {
-        put_mark(work, node.children[k], 1);
+    for child in &node.children[..shape.rank(node.symbol)] {
+        put_mark(work, *child, Some(0));
     }
 }
 
@@ -93,7 +92,7 @@ pub(crate) fn mark_used<W: Kind>(shape: &Shape, work: &mut [Place<W>], top: usiz
     ensures kept { Kept work.old work.new }
 {
     clear(work, top);
-    put_mark(work, top, 1);
+    put_mark(work, top, Some(0));
     for e in (0..top + 1).rev() {
         mark_below(shape, work, top, e);
     }

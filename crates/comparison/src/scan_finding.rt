@@ -1,4 +1,4 @@
-// A node, and what is said of it.
+// A node, and what it adds.
 use crate::scan_verdict::Verdict;
 use trees::Node;
 

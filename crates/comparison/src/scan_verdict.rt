@@ -1,10 +1,8 @@
-// What is said of a node over entries with known pairs of states.
+// What a node over entries with known pairs of states adds to them.
 use rules::Side;
 
 #[derive(Clone, Copy)]
 pub enum Verdict {
-    // it adds nothing
-    Clear,
     // its states are a pair of live states that is not known yet
     NewPair,
     // it has a live state on this side only

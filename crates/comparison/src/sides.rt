@@ -1,53 +1,26 @@
-// Reading the table on one side, and nodes over entries for its rules.
+// The rules of a table, and nodes over the entries of states.
 ghost use Rattle.std.specs.Prelude.{◌≡◌, ◌<◌, map, length, Some, slice_index, slice_set};
 ghost use Rattle.std.specs.List.{slice_get};
-ghost use Rattle.rules.specs.Shapes.{ranks_in, accepts_in};
-ghost use Rattle.liveness.specs.Reaching.{children_in};
-ghost use Rattle.comparison.specs.Access.{sided, NodeOver};
+ghost use Rattle.rules.specs.Shapes.{ranks_in, children_in};
+ghost use Rattle.comparison.specs.Access.{NodeOver};
 
 use kinds::Kind;
-use rules::{LeftSide, Rule, Shape, Side};
+use rules::{LeftSide, Rule, Shape, Table};
 use trees::Node;
 
-// Whether a state is accepting on one side.
-pub fn is_accepting(first: &Shape, second: &Shape, side: Side, state: usize) -> bool
-    ensures { result ≡ sided side (accepts_in first.now state) (accepts_in second.now state) }
-{
-    match side {
-        Side::First => first.is_accepting(state),
-        Side::Second => second.is_accepting(state),
-    }
-}
-
-// The rule at a place on one side.
-pub fn rule_at<W: Kind>(
-    first_rules: &[Rule<W>],
-    second_rules: &[Rule<W>],
-    side: Side,
-    at: usize,
-) -> Rule<W>
-    requires { at < length (sided side first_rules.now second_rules.now) }
-    ensures { slice_get (sided side first_rules.now second_rules.now) at ≡ Some result }
-{
-    match side {
-        Side::First => first_rules[at],
-        Side::Second => second_rules[at],
-    }
-}
-
 // The number for a state, and 0 past the last.
-pub fn number_of(entry: &[usize; 48], state: usize) -> usize
-    ensures { result ≡ slice_index entry.now state }
+pub fn number_of(numbers: &[usize; 48], state: usize) -> usize
+    ensures { result ≡ slice_index numbers.now state }
 {
-    if state < 48 { entry[state] } else { 0 }
+    numbers.get(state).copied().unwrap_or(0)
 }
 
-// Notes a number for a state.
-pub fn put_number(entry: &mut [usize; 48], state: usize, number: usize)
-    requires { state < 48 }
-    ensures { entry.new ≡ slice_set entry.old state number }
+// The rule at a place of a table.
+pub fn rule_at<W: Kind>(table: &Table<W>, at: usize) -> Rule<W>
+    requires { at < length table.now.rules.now }
+    ensures { slice_get table.now.rules.now at ≡ Some result }
 {
-    entry[state] = number;
+    table.rules[at]
 }
 
 // The node of a left side over the entries of its states.
@@ -55,11 +28,13 @@ pub fn node_over(shape: &Shape, left: &LeftSide, entry: &[usize; 48]) -> Node
     ensures { NodeOver (ranks_in shape.now) left.now.symbol (map (λ q. slice_index entry.now q) (children_in shape.now left.now)) result }
 {
     let mut children = [0; 4];
-    let symbol = usize::from(left.symbol);
-    for k in 0..shape.rank(symbol) {
-        children[k] = number_of(entry, usize::from(left.children[k]));
+    for (k, child) in shape.children(left).iter().enumerate() {
+        children[k] = number_of(entry, usize::from(*child));
     }
-    Node { symbol, children }
+    Node {
+        symbol: usize::from(left.symbol),
+        children,
+    }
 }
 
 // The node with another entry in a child place.

@@ -2,7 +2,7 @@
 use crate::access::Access;
 use liveness::{Life, Reach};
 
-#[derive(Clone, Copy)]
+#[derive(Drop)]
 pub struct Survey {
     pub reach: Reach,
     pub life: Life,

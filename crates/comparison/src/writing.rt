@@ -7,7 +7,7 @@ ghost use Rattle.comparison.specs.Forest.{nodes};
 ghost use Rattle.comparison.specs.Marking.{marks, Kept, Entries, Marking, Renumbered, Numbering};
 ghost use Rattle.comparison.specs.Writing.{Written};
 
-use crate::marking::{is_marked, mark_used, node_of, number_of, put_mark};
+use crate::marking::{entry_number, is_marked, mark_used, node_of, put_mark};
 use kinds::Kind;
 use rules::{Place, Shape};
 use trees::Node;
@@ -19,8 +19,8 @@ fn renumbered<W: Kind>(shape: &Shape, work: &[Place<W>], node: &Node) -> Node
 {
     let rank = shape.rank(node.symbol);
     let mut children = [0; 4];
-    for k in 0..rank {
-        children[k] = number_of(work, node.children[k]);
+    for (k, child) in node.children[..rank].iter().enumerate() {
+        children[k] = entry_number(work, *child);
     }
     Node {
         symbol: node.symbol,
@@ -59,7 +59,7 @@ fn write_entry<W: Kind>(
     }
     let node = node_of(work, entry);
     put_node(list, count, renumbered(shape, work, &node));
-    put_mark(work, entry, count + 1);
+    put_mark(work, entry, Some(count));
     count + 1
 }
 

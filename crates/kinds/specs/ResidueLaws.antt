@@ -1,36 +1,25 @@
 -- What makes the numbers 1 to 256 a group under the product modulo 257: a · a²⁵⁵ is 1, and so no product is 0.
-use Rattle.std.specs.Prelude.{◌≡◌, ℕ, zero, suc, ◌*◌, ◌%◌, ◌^◌, ◌≤◌, Bool, true, false, ◌&&◌, T, ◌==◌}
-use Rattle.std.proofs.Common.{sym, ap, ◌∙◌, mul_comm, one-mul, mod-eq_of_lt, arith, eqb→eq}
-use Rattle.std.proofs.Math.Decide.{ℕ_discrete}
+use Rattle.std.specs.Prelude.{◌≡◌, ℕ, zero, suc, ◌-◌, ◌*◌, ◌%◌, ◌^◌, ◌≤◌, Bool, true, ◌==◌, refl}
+use Rattle.std.specs.List.{list_all, range_with_len}
+use Rattle.std.proofs.Common.{get_or, sym, ap, ◌∙◌, subst, mul_comm, one-mul, mod-eq_of_lt, arith}
+use Rattle.std.proofs.lemmas.Bool.{eqb-true}
+use Rattle.std.proofs.lemmas.List.Elements.{All-get_or}
+use Rattle.std.proofs.lemmas.List.FromFn.{get_or-range_with_len}
+use Rattle.std.proofs.lemmas.List.Sums.{AllPass-from_list_all}
 use Rattle.kinds.specs.Modulo.{mod_mul_assoc}
 
 -- the test at a
 abbrev cancels_at : ℕ → Bool
 cancels_at a = a * (a ^ 255 % 257) % 257 == 1
 
--- the test at each number from 1 to n
-abbrev cancels_to : ℕ → Bool
-cancels_to zero = true
-cancels_to (suc n) = cancels_at (suc n) && cancels_to n
-
-both_left : (a b : Bool) → T (a && b) → T a
-both_left true b t = tt
-both_left false b t = t
-
-both_right : (a b : Bool) → T (a && b) → T b
-both_right true b t = t
-both_right false b t = absurd t
-
-cancels_within : (n : ℕ) → T (cancels_to n) → (a : ℕ) → 1 ≤ a → a ≤ n → T (cancels_at a)
-cancels_within zero t a low high = absurd (omega arith)
-cancels_within (suc n) t a low high = last (ℕ_discrete a (suc n)) (λ less. cancels_within n (both_right (cancels_at (suc n)) (cancels_to n) t) a low less)
-  where
-    last : Dec (a ≡ suc n) → (a ≤ n → T (cancels_at a)) → T (cancels_at a)
-    last (yes e) before = rw e (both_left (cancels_at (suc n)) (cancels_to n) t)
-    last (no ne) before = before (omega arith)
+all_cancel : list_all cancels_at (range_with_len 1 256) ≡ true
+all_cancel = refl
 
 pub power_cancels : (a : ℕ) → 1 ≤ a → a ≤ 256 → a * (a ^ 255 % 257) % 257 ≡ 1
-power_cancels a low high = eqb→eq (a * (a ^ 255 % 257) % 257) 1 (cancels_within 256 tt a low high)
+power_cancels a low high =
+    let at = All-get_or (λ x. cancels_at x ≡ true) (range_with_len 1 256) (a - 1) 0 (omega arith) (AllPass-from_list_all cancels_at (range_with_len 1 256) all_cancel) in
+    let is : get_or (range_with_len 1 256) (a - 1) 0 ≡ a = get_or-range_with_len 1 256 (a - 1) 0 (omega arith) ∙ omega arith in
+    eqb-true _ _ (subst (λ x. cancels_at x ≡ true) is at)
 
 pub remainder_high : (n : ℕ) → n % 257 ≤ 256
 remainder_high n = omega arith

@@ -25,8 +25,12 @@ pub trait Kind: Copy {
     fn inverse(self) -> Self
         ensures { stands result ≡ weights.inverse (stands self) };
 
+    // told by the codes, which differ for different weights
     fn same(self, other: Self) -> bool
-        ensures { (result ≡ true) ↔ (stands self ≡ stands other) };
+        ensures { (result ≡ true) ↔ (stands self ≡ stands other) }
+    {
+        self.code() == other.code()
+    }
 
     fn code(self) -> i64
         ensures { result ≡ weights.code (stands self) };

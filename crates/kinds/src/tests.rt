@@ -41,10 +41,6 @@ impl Kind for Tagged {
         }
     }
 
-    fn same(self, other: Tagged) -> bool {
-        self.residue.same(other.residue)
-    }
-
     fn code(self) -> i64 {
         self.residue.code()
     }
@@ -55,39 +51,37 @@ impl Kind for Tagged {
     }
 }
 
-// 0 if the code is read as a weight with that code, 1 if as another weight, and else the refusal's number
-fn answer<W: Kind>(code: i64) -> u8 {
-    match W::read(code) {
-        Ok(w) => if w.code() == code { 0 } else { 1 },
-        Err(e) => e.number(),
-    }
+// the code of what the code is read as, or the refusal's number
+fn answer<W: Kind>(code: i64) -> Result<i64, u8> {
+    W::read(code).map(|w| w.code()).map_err(|e| e.number())
 }
 
 // at the codes around 0 and 257, and at the ends of the argument's type
-fn answers<W: Kind>() -> [u8; 7] {
-    [
-        answer::<W>(i64::MIN),
-        answer::<W>(-1),
-        answer::<W>(0),
-        answer::<W>(1),
-        answer::<W>(256),
-        answer::<W>(257),
-        answer::<W>(i64::MAX),
-    ]
+fn answers<W: Kind>() -> [Result<i64, u8>; 7] {
+    [i64::MIN, -1, 0, 1, 256, 257, i64::MAX].map(|code| answer::<W>(code))
 }
 
 #[test]
 fn reads_codes(rt: HostRuntime) {
-    assert_eq!(rt; answers::<Marks>(), [8, 8, 8, 0, 8, 8, 8]);
-    assert_eq!(rt; answers::<Residue>(), [8, 8, 8, 0, 0, 8, 8]);
-    assert_eq!(rt; answers::<Cost>(), [8, 0, 0, 0, 0, 0, 8]);
+    assert_eq!(rt;
+        answers::<Marks>(),
+        [Err(8), Err(8), Err(8), Ok(1), Err(8), Err(8), Err(8)]
+    );
+    assert_eq!(rt;
+        answers::<Residue>(),
+        [Err(8), Err(8), Err(8), Ok(1), Ok(256), Err(8), Err(8)]
+    );
+    assert_eq!(rt;
+        answers::<Cost>(),
+        [Err(8), Ok(-1), Ok(0), Ok(1), Ok(256), Ok(257), Err(8)]
+    );
     assert_eq!(rt;
         [answer::<Cost>(-2147483648), answer::<Cost>(-2147483649)],
-        [0, 8]
+        [Ok(-2147483648), Err(8)]
     );
     assert_eq!(rt;
         [answer::<Cost>(2147483647), answer::<Cost>(2147483648)],
-        [0, 8]
+        [Ok(2147483647), Err(8)]
     );
 }
 
@@ -99,6 +93,7 @@ fn known_values(rt: HostRuntime) -> Result<(), Fail> {
     let least = Cost::read(-2147483648)?;
     assert_eq!(rt; most.times(Cost::read(1)?).code(), -2147483648);
     assert!(rt; least.inverse().same(least));
+    assert_eq!(rt; Cost::from(-7), Cost::read(-7)?);
     Ok(())
 }
 

@@ -27,27 +27,27 @@ not_full n k h = at (leb (min n 1024) k) refl h
     at true i j = let z : ◌≡◌ {A = ℕ} 0 1 = cc in absurd (omega arith)
     at false i j = leb-false (min n 1024) k i
 
-module _ (n : ℕ) (v w : Residue) where
+module _ {W : Type 0} (n : ℕ) (v w : W) where
   -- the book after the accept, and after the first add
-  abbrev marked : Book Residue
+  abbrev marked : Book W
   marked = accepted (opened (0 ∷ 1 ∷ []) 2 n) 1
 
-  abbrev half : Book Residue
+  abbrev half : Book W
   half = added marked (leaf 0 0 v)
 
-  module _ (b : Book Residue) (o : Opens (0 ∷ 1 ∷ []) 2 n b) where
+  module _ (b : Book W) (o : Opens (0 ∷ 1 ∷ []) 2 n b) where
     opened_is : b ≡ opened (0 ∷ 1 ∷ []) 2 n
     opened_is = opens_is (0 ∷ 1 ∷ []) 2 n b o
 
-    module _ (b₁ : Book Residue) (a₁ : NoneMet (checks (accept_checks b 1)) × Accepts 1 b b₁) where
+    module _ (b₁ : Book W) (a₁ : NoneMet (checks (accept_checks b 1)) × Accepts 1 b b₁) where
       marked_is : b₁ ≡ marked
       marked_is = accepts_is 1 b b₁ a₁.1 ∙ ap (λ x. accepted x 1) opened_is
 
-      module _ (b₂ : Book Residue) (a₂ : NoneMet (checks (add_checks b₁ 0 [] 0)) × (b₂ ≡ added b₁ (leaf 0 0 v))) where
+      module _ (b₂ : Book W) (a₂ : NoneMet (checks (add_checks b₁ 0 [] 0)) × (b₂ ≡ added b₁ (leaf 0 0 v))) where
         half_is : b₂ ≡ half
         half_is = a₂.1 ∙ ap (λ x. added x (leaf 0 0 v)) marked_is
 
-        pub second_add : (b₃ : Book Residue) (P : Type 0) (r : Result (Unit {0}) Refusal) → Answers (checks (add_checks b₂ 1 (0 ∷ []) 1)) (λ _. b₃ ≡ added b₂ (edge 1 0 1 w)) P r → Filled n v w b₃ r
+        pub second_add : (b₃ : Book W) (P : Type 0) (r : Result (Unit {0}) Refusal) → Answers (checks (add_checks b₂ 1 (0 ∷ []) 1)) (λ _. b₃ ≡ added b₂ (edge 1 0 1 w)) P r → Filled n v w b₃ r
         second_add b₃ P (Ok u) a =
             let k = not_full n 1 (ap (λ x. first_met (add_checks x 1 (0 ∷ []) 1)) (sym half_is) ∙ none_met (add_checks b₂ 1 (0 ∷ []) 1) a.0) in
             (omega arith, adding 1 (0 ∷ []) 1 w (Ok tt) (adding 0 [] 0 v (Ok tt) (accepting 1 (Ok tt) (opening o) a₁) a₂) a)
@@ -55,13 +55,13 @@ module _ (n : ℕ) (v w : Residue) where
             let k = full n 1 e (ap (λ x. first_met (add_checks x 1 (0 ∷ []) 1)) (sym half_is) ∙ first_is_met (add_checks b₂ 1 (0 ∷ []) 1) e a.0) in
             omega arith
 
-  flagged : (b : Bool) → cond b true false ≡ b
-  flagged true = refl
-  flagged false = refl
+flagged : (b : Bool) → cond b true false ≡ b
+flagged true = refl
+flagged false = refl
 
-  -- the book of a chain
-  pub chain_book : 2 ≤ n → book (chain_opening n) (drafting v w) ≡ record { places = n; content = chain v w }
-  chain_book l =
-      let i : leb (min n 1024) 0 ≡ false = lt-leb (min n 1024) 0 (omega arith) in
-      let j : leb (min n 1024) 1 ≡ false = lt-leb (min n 1024) 1 (omega arith) in
-      simp (i, j) (λ k. record { places = n; content = record { ranks = 0 ∷ 1 ∷ []; states = 2; accepting = λ q. flagged (eqb q 1) k; rules = leaf 0 0 v ∷ edge 1 0 1 w ∷ [] } })
+-- the book of a chain
+pub chain_book : (n : ℕ) (v w : Residue) → 2 ≤ n → book (chain_opening n) (drafting v w) ≡ record { places = n; content = chain v w }
+chain_book n v w l =
+    let i : leb (min n 1024) 0 ≡ false = lt-leb (min n 1024) 0 (omega arith) in
+    let j : leb (min n 1024) 1 ≡ false = lt-leb (min n 1024) 1 (omega arith) in
+    simp (i, j) (λ k. record { places = n; content = record { ranks = 0 ∷ 1 ∷ []; states = 2; accepting = λ q. flagged (eqb q 1) k; rules = leaf 0 0 v ∷ edge 1 0 1 w ∷ [] } })

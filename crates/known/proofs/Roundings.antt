@@ -1,6 +1,5 @@
 -- From opening two chains to what the whole round answers.
-use Rattle.std.proofs.Common.{◌≡◌, ℕ, ◌<◌, ◌≤◌, true, ◌⊎◌, List, [], ◌∷◌, is_err, Ok, Err, Result, subst, inr}
-use Rattle.std.proofs.lemmas.Bool.{false≢true}
+use Rattle.std.proofs.Common.{◌≡◌, ℕ, ◌≤◌, List, [], ◌∷◌, Ok, Err, Result, subst, inr}
 use Rattle.kinds.specs.declared.residue.Residue.{Residue}
 use Rattle.kinds.specs.Residues.{residues}
 use Rattle.trees.specs.declared.refusal.Refusal.{Refusal}
@@ -20,7 +19,3 @@ module _ (n m list work : ℕ) where
   pub rounded : (r : Result Shown Refusal) → 2 ≤ n → 2 ≤ m → Asked list work r → Rounded n m list work r
   rounded (Ok s) l k a = (l, k, a.0, a.1, a.2)
   rounded (Err e) l k a = inr (inr a)
-
-  pub rounded_refused : (r : Result Shown Refusal) → is_err r ≡ true → (n < 2) ⊎ ((m < 2) ⊎ ((list < 18) ⊎ (work < 18))) → Rounded n m list work r
-  rounded_refused (Ok s) e short = absurd (false≢true e)
-  rounded_refused (Err x) e short = short

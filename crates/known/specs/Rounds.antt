@@ -16,16 +16,16 @@ abbrev pub chain_opening : ℕ → Opening
 chain_opening places = record { ranks = 0 ∷ 1 ∷ []; states = 2; places = places }
 
 -- the calls that draft the rules 0 → 0 / v and 1(0) → 1 / w, the newest first
-abbrev pub drafting : Residue → Residue → List (Call Residue)
+abbrev pub drafting : {W : Type 0} → W → W → List (Call W)
 drafting v w = add 1 (0 ∷ []) 1 w (Ok tt) ∷ add 0 [] 0 v (Ok tt) ∷ accept 1 (Ok tt) ∷ []
 
 -- a memory with two places takes the rules
-abbrev pub Filled : ℕ → Residue → Residue → Book Residue → Result (Unit {0}) Refusal → Type 0
+abbrev pub Filled : {W : Type 0} → ℕ → W → W → Book W → Result (Unit {0}) Refusal → Type 0
 Filled places v w b (Ok u) = (2 ≤ places) × Drafted (chain_opening places) (drafting v w) b
 Filled places v w b (Err e) = places < 2
 
 -- the calls that lead to the closed chain with the weights v and w
-abbrev pub closed_chain : Residue → Residue → List (Call Residue)
+abbrev pub closed_chain : {W : Type 0} → W → W → List (Call W)
 closed_chain v w = close ∷ drafting v w
 
 abbrev pub first_calls : List (Call Residue)

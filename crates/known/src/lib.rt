@@ -7,7 +7,7 @@ ghost use Rattle.known.specs.Cases.{Holds, cases};
 mod rounds;
 mod shown;
 
-pub use rounds::round;
+pub use rounds::{chain, round};
 pub use shown::Shown;
 
 // The definitions give what is known of small tables and weights.

@@ -16,10 +16,7 @@ use trees::{Node, Refusal};
 fn residue(code: i64) -> Residue
     ensures { (w : Residue) → pos w.code ≡ code → result ≡ w }
 {
-    match Residue::read(code) {
-        Ok(weight) => weight,
-        Err(_) => Residue::one(),
-    }
+    Residue::read(code).unwrap_or(Residue::one())
 }
 
 // The tree 1(0).
@@ -39,8 +36,8 @@ fn tree() -> [Node; 2]
 }
 
 // Drafts the rules 0 → 0 / low and 1(0) → 1 / high, with state 1 accepting.
-fn fill(draft: &mut Draft<'_, Residue>, low: Residue, high: Residue) -> Result<(), Refusal>
-    ensures { (places : ℕ) → Opens (0 ∷ 1 ∷ []) 2 places (draft_holds (λ v. v) draft.old) → Filled places low high (draft_holds (λ v. v) draft.new) result }
+pub fn chain<W: Kind>(draft: &mut Draft<'_, W>, low: W, high: W) -> Result<(), Refusal>
+    ensures { (places : ℕ) → Opens (0 ∷ 1 ∷ []) 2 places (draft_holds W.Kind.stands draft.old) → Filled places (W.Kind.stands low) (W.Kind.stands high) (draft_holds W.Kind.stands draft.new) result }
 {
     draft.accept(1)?;
     draft.add(0, &[], 0, low)?;
@@ -89,10 +86,10 @@ pub fn round(
     let mut measure = Measure::fresh();
     measure.measure(&[0, 1], 2)?;
     let mut draft = Draft::<Residue>::open(&measure, first_memory);
-    fill(&mut draft, residue(4), residue(8))?;
+    chain(&mut draft, residue(4), residue(8))?;
     let mut first = draft.close();
     let mut other = Draft::<Residue>::open(&measure, second_memory);
-    fill(&mut other, residue(2), residue(16))?;
+    chain(&mut other, residue(2), residue(16))?;
     let mut second = other.close();
     ask(&mut first, &mut second, list, work)
 }

@@ -1,11 +1,10 @@
-pub mod Collected
 pub mod Cuts
 pub mod Decided
 pub mod Decimal
-pub mod Digits
 pub mod Ends
 pub mod Entries
-pub mod Minus
 pub mod Padding
+pub mod Sixes
+pub mod Styled
 pub mod Unique
 pub mod Written

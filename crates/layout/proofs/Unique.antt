@@ -1,30 +1,18 @@
 -- A line has one entry, and a field one number.
-use Rattle.std.proofs.Common.{◌≡◌, ℕ, ◌+◌, ◌-◌, List, [], ◌∷◌, ◌++◌, length, get_or, take, drop, replicate, ℤ, pos, Some, decimal, sym, refl, ap, ◌∙◌, ap₂, arith, length-append}
+use Rattle.std.proofs.Common.{◌≡◌, ℕ, ◌+◌, ◌-◌, List, [], ◌∷◌, ◌++◌, length, get_or, take, drop, replicate, pos, Some, decimal, sym, refl, ap, ◌∙◌, ap₂, arith, length-append}
 use native.Mathlib.Decide.{dec_lt}
 use lib.ListN.{length-replicate}
 use Rattle.std.specs.List.{AllByRecursion}
-use Rattle.std.specs.Fmt.{signed_decimal}
-use Rattle.std.proofs.lemmas.Fmt.{decimal_is_IsNumeral, decimal_injective, signed_decimal_injective}
+use Rattle.std.proofs.lemmas.Fmt.{decimal_is_IsNumeral}
 use Rattle.std.proofs.ByRecursion.{All-append, All-from_get_or, All-get_or}
 use Rattle.std.proofs.lemmas.List.{get_or_at, get_or_append_left, get_or-replicate, drop-drop}
 use Rattle.std.proofs.lemmas.Str.Parse.{digit_at}
-use Rattle.layout.specs.Fields.{field, fields, Short, Long}
+use Rattle.layout.specs.Fields.{field, fields, Short}
 use Rattle.layout.specs.Lines.{Entry, kind, table, accept, rule, end, written, Fits, Begins}
 use Rattle.layout.specs.Parts.{Ends}
 use Rattle.layout.proofs.Cuts.{length_field, cut_front}
 use Rattle.layout.proofs.Entries.{letter, first_letter, rule_cuts}
-use Rattle.layout.proofs.Padding.{same_rest, first_decimal_other, first_signed_other, long_fits}
-
-pub number_same : (m n : ℕ) → Short m → Short n → field 6 (pos m) ≡ field 6 (pos n) → m ≡ n
-number_same m n short-m short_n is =
-    let digits = same_rest (6 - length (decimal m)) (6 - length (decimal n)) (decimal m) (decimal n) is (first_decimal_other m (omega arith)) (first_decimal_other n (omega arith)) in
-    decimal_injective m n (omega arith) (omega arith) digits
-
-pub field_same : (y z : ℤ) → Long y → Long z → field 12 y ≡ field 12 z → y ≡ z
-field_same y z long-y long-z is =
-    let fits_y = long_fits y long-y in
-    let fits_z = long_fits z long-z in
-    signed_decimal_injective y z fits_y fits_z (same_rest (12 - length (signed_decimal y)) (12 - length (signed_decimal z)) (signed_decimal y) (signed_decimal z) is (first_signed_other y fits_y) (first_signed_other z fits_z))
+use Rattle.layout.proofs.Padding.{number_same}
 
 pub fields_same : (ms ns : List ℕ) → AllByRecursion Short ms → AllByRecursion Short ns → fields ms ≡ fields ns → ms ≡ ns
 fields_same [] [] all_m all_n is = refl
@@ -88,8 +76,9 @@ line_cut bytes e rest k begins ends =
 
 rule_same : (s t s' t' : ℕ) (v w ms ns : List ℕ) → Fits (rule s t v ms) → Fits (rule s' t' w ns) → written (rule s t v ms) ≡ written (rule s' t' w ns) → rule s t v ms ≡ rule s' t' w ns
 rule_same s t s' t' v w ms ns fits_e fits_f is =
-    let one = rule_cuts (written (rule s t v ms)) s t v ms fits_e refl in
-    let other = rule_cuts (written (rule s t v ms)) s' t' w ns fits_f is in
+    let rest = drop 1 (written (rule s t v ms)) in
+    let one = rule_cuts rest s t v ms fits_e refl in
+    let other = rule_cuts rest s' t' w ns fits_f is in
     let symbols = number_same s s' fits_e.0 fits_f.0 (sym one.symbol ∙ other.symbol) in
     let targets = number_same t t' fits_e.1 fits_f.1 (sym one.target ∙ other.target) in
     let weights = sym one.bytes ∙ other.bytes in

@@ -11,11 +11,6 @@ ReadsNumbers part numbers = (ns : List ℕ) → AllByRecursion Short ns → part
 abbrev pub number_line : ℕ → List ℕ → List ℕ
 number_line letter ns = letter ∷ fields ns ++ 10 ∷ []
 
--- a code, and that there is one
-abbrev pub CodeNumbers : Option ℤ → ℕ → ℤ → Type 0
-CodeNumbers (Some z) found number = (found ≡ 1) × (number ≡ z)
-CodeNumbers None found number = (found ≡ 0) × (number ≡ pos 0)
-
 -- the weight of a tree in a table: its code, or that it has none
 abbrev pub weight_line : ℕ → Option ℤ → List ℕ
 weight_line t (Some z) = 87 ∷ fields (t ∷ 1 ∷ []) ++ field 12 z ++ 10 ∷ []

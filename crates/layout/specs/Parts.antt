@@ -1,5 +1,5 @@
 -- The parts of a line, as they are read.
-use Rattle.std.specs.Prelude.{◌≡◌, ℕ, ◌<◌, ◌≤◌, List, length, Some, None, Option, ◌≢◌, slice_index, slice_index_or}
+use Rattle.std.specs.Prelude.{◌≡◌, ℕ, ◌<◌, List, length, Some, None, Option, ◌≢◌, slice_index}
 use Rattle.std.specs.List.{AllByRecursion}
 use Rattle.layout.specs.declared.line.Line.{Line}
 use Rattle.layout.specs.Fields.{fields, Short}
@@ -12,17 +12,6 @@ Numbers part = (ns : List ℕ) × AllByRecursion Short ns × (part ≡ fields ns
 -- no byte of the text ends a line
 abbrev pub Unbroken : List ℕ → Type 0
 Unbroken text = (k : ℕ) → k < length text → slice_index text k ≢ 10
-
--- the text of a line that begins with the letter
-pub record Lettered (letter : ℕ) (text : List ℕ) : Type 0 where
-  pub some : 0 < length text
-  pub first : slice_index_or text 0 0 ≡ letter
-  pub unbroken : Unbroken text
-
--- a rule has a letter, two fields and a weight, and no more than four fields behind them
-pub record RuleSized (text : List ℕ) : Type 0 where
-  pub least : 25 ≤ length text
-  pub most : length text ≤ 49
 
 -- what the text of a line says
 abbrev pub ReadsEntry : List ℕ → Option Line → Type 0

@@ -1,5 +1,5 @@
 // What a line of a page says.
-#[derive(Clone, Copy)]
+#[derive(Clone, Copy, Debug, PartialEq, Eq)]
 pub enum Line<'a> {
     Kind {
         number: usize,

@@ -1,9 +1,9 @@
 // Reading the lines of a page.
 ghost use Rattle.layout.specs.Lines.{ReadsLine};
-ghost use Rattle.layout.specs.Parts.{Numbers, Unbroken, Lettered, RuleSized, ReadsEntry, Ends};
-ghost use Rattle.std.specs.Prelude.{Decides};
+ghost use Rattle.layout.specs.Parts.{Numbers, Unbroken, ReadsEntry, Ends};
+ghost use Rattle.std.specs.Prelude.{Decides, ◌∷◌};
 
-use crate::fields::{columns, read_number};
+use crate::fields::read_number;
 use crate::line::Line;
 use crate::reading::Reading;
 
@@ -11,65 +11,30 @@ use crate::reading::Reading;
 fn are_numbers(part: &[u8]) -> bool
     ensures { Decides result (Numbers part.now) }
 {
-    for i in 0..part.len() / 6 {
-        if read_number(columns(part, 6 * i)).is_none() {
-            return false;
-        }
-    }
-    part.len() % 6 == 0
+    part.chunks(6).all(|field| read_number(field).is_some())
 }
 
-fn kind_line(text: &[u8]) -> Option<Line>
-    requires { Lettered 75 text.now }
-    ensures { ReadsEntry text.now result }
+// The line of a table, behind its letter.
+#[tactic(auto, using(crate::proofs::Entries::table_none, crate::proofs::Entries::table_read))]
+fn table_line(fields: &[u8]) -> Option<Line>
+    ensures { ReadsEntry (84 ∷ fields.now) result }
 {
-    let number = read_number(&text[1..])?;
-    Some(Line::Kind { number })
+    let (states, ranks) = fields.split_at_checked(6)?;
+    let states = read_number(states)?;
+    are_numbers(ranks).then_some(Line::Table { states, ranks })
 }
 
-fn accept_line(text: &[u8]) -> Option<Line>
-    requires { Lettered 65 text.now }
-    ensures { ReadsEntry text.now result }
+// The line of a rule, behind its letter: at most four children follow its weight.
+fn rule_line(fields: &[u8]) -> Option<Line>
+    requires { Unbroken fields.now }
+    ensures { ReadsEntry (82 ∷ fields.now) result }
 {
-    let state = read_number(&text[1..])?;
-    Some(Line::Accept { state })
-}
-
-fn table_line(text: &[u8]) -> Option<Line>
-    requires { Lettered 84 text.now }
-    ensures { ReadsEntry text.now result }
-{
-    if text.len() < 7 {
-        return None;
-    }
-    let states = read_number(columns(text, 1))?;
-    let ranks = &text[7..];
-    if are_numbers(ranks) {
-        Some(Line::Table { states, ranks })
-    } else {
-        None
-    }
-}
-
-// Whether a rule has this length: at most four children behind its weight.
-fn rule_sized(text: &[u8]) -> bool
-    ensures { Decides result (RuleSized text.now) }
-{
-    text.len() >= 25 && text.len() <= 49
-}
-
-fn rule_line(text: &[u8]) -> Option<Line>
-    requires { Lettered 82 text.now }
-    ensures { ReadsEntry text.now result }
-{
-    if !rule_sized(text) {
-        return None;
-    }
-    let symbol = read_number(columns(text, 1))?;
-    let target = read_number(columns(text, 7))?;
-    let weight = &text[13..25];
-    let children = &text[25..];
-    if are_numbers(children) {
+    let (symbol, rest) = fields.split_at_checked(6)?;
+    let (target, rest) = rest.split_at_checked(6)?;
+    let (weight, children) = rest.split_at_checked(12)?;
+    let symbol = read_number(symbol)?;
+    let target = read_number(target)?;
+    if children.len() <= 24 && are_numbers(children) {
         Some(Line::Rule {
             symbol,
             target,
@@ -81,31 +46,19 @@ fn rule_line(text: &[u8]) -> Option<Line>
     }
 }
 
-fn end_line(text: &[u8]) -> Option<Line>
-    requires { Lettered 69 text.now }
-    ensures { ReadsEntry text.now result }
-{
-    if text.len() == 1 {
-        Some(Line::End)
-    } else {
-        None
-    }
-}
-
 // What the text of a line says, if it is in the layout.
+#[tactic(auto, using(crate::proofs::Entries::kind_read, crate::proofs::Entries::accept_read, crate::proofs::Entries::end_read))]
 fn read_line(text: &[u8]) -> Option<Line>
     requires { Unbroken text.now }
     ensures { ReadsEntry text.now result }
 {
-    if text.is_empty() {
-        return None;
-    }
-    match text[0] as char {
-        'K' => kind_line(text),
-        'T' => table_line(text),
-        'A' => accept_line(text),
-        'R' => rule_line(text),
-        'E' => end_line(text),
+    let (letter, fields) = text.split_first()?;
+    match char::from(*letter) {
+        'K' => read_number(fields).map(|number| Line::Kind { number }),
+        'T' => table_line(fields),
+        'A' => read_number(fields).map(|state| Line::Accept { state }),
+        'R' => rule_line(fields),
+        'E' => fields.is_empty().then_some(Line::End),
         _ => None,
     }
 }
@@ -114,24 +67,16 @@ fn read_line(text: &[u8]) -> Option<Line>
 fn line_end(text: &[u8]) -> Option<usize>
     ensures { Ends text.now result }
 {
-    for (i, byte) in text.iter().enumerate() {
-        if *byte == b'\n' {
-            return Some(i);
-        }
-    }
-    None
+    text.iter().position(|byte| *byte == b'\n')
 }
 
 // The line that begins at a place of the page.
 pub fn line_at(page: &[u8], at: usize) -> Option<Reading>
     ensures { ReadsLine page.now at result }
 {
-    if at > page.len() {
-        return None;
-    }
-    let rest = &page[at..];
+    let rest = page.get(at..)?;
     let end = line_end(rest)?;
-    let line = read_line(&rest[0..end])?;
+    let line = read_line(&rest[..end])?;
     Some(Reading {
         line,
         next: at + end + 1,

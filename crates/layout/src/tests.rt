@@ -1,6 +1,7 @@
 // Fields and lines, in the layout and out of it.
 use crate::{
-    Line, line_at, read_code, read_number, read_numbers, write_field, write_line, write_weight,
+    Line, Reading, line_at, read_code, read_number, read_numbers, write_field, write_line,
+    write_weight,
 };
 use std::test::Fail;
 
@@ -42,34 +43,43 @@ fn no_codes(rt: HostRuntime) {
     assert_eq!(rt; read_code(b"     1"), None);
 }
 
-// The letter of the line at the start of the page, its numbers, the lengths of its parts, and where the next line begins.
-fn first_line(page: &[u8]) -> Option<(char, [usize; 5])> {
-    let reading = line_at(page, 0)?;
-    let next = reading.next;
-    match reading.line {
-        Line::Kind { number } => Some(('K', [number, 0, 0, 0, next])),
-        Line::Table { states, ranks } => Some(('T', [states, 0, 0, ranks.len(), next])),
-        Line::Accept { state } => Some(('A', [state, 0, 0, 0, next])),
-        Line::Rule {
-            symbol,
-            target,
-            weight,
-            children,
-        } => Some(('R', [symbol, target, weight.len(), children.len(), next])),
-        Line::End => Some(('E', [0, 0, 0, 0, next])),
-    }
+// What the line at the start of a page says, and where the next line begins.
+fn first_line(page: &[u8]) -> Option<(Line, usize)> {
+    let Reading { line, next } = line_at(page, 0)?;
+    Some((line, next))
 }
 
 #[test]
 fn lines(rt: HostRuntime) {
-    assert_eq!(rt; first_line(b"K     2\n"), Some(('K', [2, 0, 0, 0, 8])));
-    assert_eq!(rt; first_line(b"T     7\n"), Some(('T', [7, 0, 0, 0, 8])));
+    assert_eq!(rt;
+        first_line(b"K     2\n"),
+        Some((Line::Kind { number: 2 }, 8))
+    );
+    assert_eq!(rt;
+        first_line(b"T     7\n"),
+        Some((
+            Line::Table {
+                states: 7,
+                ranks: b""
+            },
+            8
+        ))
+    );
     assert_eq!(rt;
         first_line(b"T     7     1\nE\n"),
-        Some(('T', [7, 0, 0, 6, 14]))
+        Some((
+            Line::Table {
+                states: 7,
+                ranks: b"     1"
+            },
+            14
+        ))
     );
-    assert_eq!(rt; first_line(b"A     5\n"), Some(('A', [5, 0, 0, 0, 8])));
-    assert_eq!(rt; first_line(b"E\n"), Some(('E', [0, 0, 0, 0, 2])));
+    assert_eq!(rt;
+        first_line(b"A     5\n"),
+        Some((Line::Accept { state: 5 }, 8))
+    );
+    assert_eq!(rt; first_line(b"E\n"), Some((Line::End, 2)));
 }
 
 #[test]
@@ -91,11 +101,27 @@ fn no_lines(rt: HostRuntime) {
 fn rules(rt: HostRuntime) {
     assert_eq!(rt;
         first_line(b"R     1     2           3\n"),
-        Some(('R', [1, 2, 12, 0, 26]))
+        Some((
+            Line::Rule {
+                symbol: 1,
+                target: 2,
+                weight: b"           3",
+                children: b""
+            },
+            26
+        ))
     );
     assert_eq!(rt;
         first_line(b"R     1     2           3     4     5     6     7\n"),
-        Some(('R', [1, 2, 12, 24, 50]))
+        Some((
+            Line::Rule {
+                symbol: 1,
+                target: 2,
+                weight: b"           3",
+                children: b"     4     5     6     7"
+            },
+            50
+        ))
     );
     assert_eq!(rt;
         first_line(b"R     1     2           3     4     5     6     7     8\n"),
@@ -119,11 +145,10 @@ fn forty_ranks(rt: HostRuntime) -> Result<(), Fail> {
     let heap = rt.alloc();
     let mut page = Vec::new(heap);
     write_line(&mut page, b'T', &[4; 41])?;
-    assert_eq!(rt; first_line(&page), Some(('T', [4, 0, 0, 240, 248])));
-    let line = line_at(&page, 0).ok_or("no line")?.line;
-    let Line::Table { ranks, .. } = line else {
+    let Some((Line::Table { states, ranks }, next)) = first_line(&page) else {
         return Err(Fail::new("no table"));
     };
+    assert_eq!(rt; (states, ranks.len(), next), (4, 240, 248));
     assert!(rt; read_numbers(heap, ranks)?.as_slice() == [4usize; 40].as_slice());
     Ok(())
 }

@@ -1,14 +1,18 @@
 -- A pass over the rules from the leaves up: each state that is added is derived, and a pass that adds none leaves nothing to add.
-use Rattle.std.proofs.Common.{◌≡◌, ℕ, ◌+◌, ◌<◌, ◌≤◌, true, false, List, map, length, get_or, take, set, replicate, Some, sym, refl, ap, ◌∙◌, subst, inl, inr, arith, below_more}
+use Rattle.liveness.specs.Reaching.{rule_of}
+use Rattle.liveness.specs.Listings.{none_found, flags_of, found_too}
+use Rattle.std.proofs.Common.{◌≡◌, ℕ, ◌+◌, ◌<◌, ◌≤◌, false, List, map, length, get_or, take, Some, sym, refl, ap, ◌∙◌, subst, inl, inr, arith, below_more}
 use Rattle.std.specs.List.{ContainsAt, AllByRecursion, slice_get}
-use Rattle.std.proofs.lemmas.List.{get_or-set_same, get_or-set_other, length-set, length-map, get_or-map}
+use Rattle.std.proofs.lemmas.List.{length-map, get_or-map}
 use Rattle.std.proofs.lemmas.Option.{slice_get-get_or}
 use Rattle.std.proofs.ByRecursion.{All-weaker}
 use Rattle.automata.specs.Automata.{Transition, Automaton}
-use Rattle.liveness.specs.declared.reach.Reach.{Reach}
+use Rattle.liveness.specs.Listings.{Reach}
 use Rattle.liveness.specs.Listings.{Flagged}
-use Rattle.liveness.specs.Reaching.{Derived, Follows, Reaching, reached_too, Tried}
-use Rattle.liveness.proofs.Listings.{listed_none, listed_more, traced_more}
+use Rattle.liveness.specs.Reaching.{Derived, Follows, Reaching, Tried}
+use Rattle.std.specs.Option.{unwrap_or}
+use Rattle.liveness.proofs.Listings.{listed_none, traced_more}
+use Rattle.liveness.proofs.Founds.{Sized, sized_more, flags_long, how_here, how_other, listed_too}
 
 -- the element that was read at a place of a list, under a map
 pub nth_mapped : {X Y : Type 0} (f : X → Y) (xs : List X) (i : ℕ) (x : X) → i < length xs → x ≡ get_or xs i x → slice_get (map f xs) i ≡ Some (f x)
@@ -20,12 +24,6 @@ nth_mapped f xs i x h e =
 pub has_below : {X : Type 0} (P : X → Type 0) (xs : List X) (n : ℕ) → length xs ≤ n → ((k : ℕ) → k < n → (x : X) → slice_get xs k ≡ Some x → P x) → (x : X) → ContainsAt xs x → P x
 has_below P xs n long all x h = all h.0 (omega (arith, h.1)) x (slice_get-get_or xs h.0 x h.1 ∙ ap Some (h.2 x))
 
--- the arrays have their lengths
-pub record Sized (R : Reach) : Type 0 where
-  pub reached : length R.reached ≡ 48
-  pub order : length R.order ≡ 48
-  pub rule : length R.rule ≡ 48
-
 module _ {W : Type 0} (A : Automaton W) where
   -- the list has grown since it was b long, or the first i rules follow
   abbrev pub Rising : ℕ → Reach → ℕ → Type 0
@@ -33,20 +31,20 @@ module _ {W : Type 0} (A : Automaton W) where
       Sized R × Reaching A R × (b ≤ R.count) × (R.count ≡ b → (k : ℕ) → k < i → (r : Transition W) → slice_get A.rules k ≡ Some r → Follows A R r)
 
   module _ (few : A.states ≤ 48) (R : Reach) (sized : Sized R) (g : Reaching A R) where
-    reaching_more : (r : Transition W) (j : ℕ) → slice_get A.rules j ≡ Some r → r.target < A.states → get_or R.reached r.target false ≡ false → AllByRecursion (Flagged R.reached) r.children → Reaching A (reached_too R r.target j)
+    reaching_more : (r : Transition W) (j : ℕ) → slice_get A.rules j ≡ Some r → r.target < A.states → get_or (flags_of R) r.target false ≡ false → AllByRecursion (Flagged (flags_of R)) r.children → Reaching A (found_too R r.target j)
     reaching_more r j there new off all =
         let q = r.target in
         let last : Derived A (take R.count R.order) q j = record {
           rule = r;
           there = there;
           target = refl;
-          children = All-weaker (Flagged R.reached) (ContainsAt (take R.count R.order)) (λ p f. (g.0.flagged p).0 f) r.children all;
+          children = All-weaker (Flagged (flags_of R)) (ContainsAt (take R.count R.order)) (λ p f. (g.0.flagged p).0 f) r.children all;
         } in (
-          listed_more A.states R.reached R.order R.count sized.reached sized.order few g.0 q new off,
-          traced_more A.states R.reached R.order R.count sized.reached sized.order few g.0 q new off
-              (λ xs p. Derived A xs p (get_or R.rule p 0)) (λ xs p. Derived A xs p (get_or (set R.rule q j) p 0))
-              (λ xs p n d. subst (Derived A xs p) (sym (get_or-set_other R.rule q p j 0 n)) d)
-              (subst (Derived A (take R.count R.order) q) (sym (get_or-set_same R.rule q j 0 (omega (arith, sized.rule)))) last)
+          listed_too R sized q j A.states few g.0 new off,
+          traced_more A.states (flags_of R) R.order R.count (flags_long R sized q j) sized.order few g.0 q new off
+              (λ xs p. Derived A xs p (rule_of R p)) (λ xs p. Derived A xs p (rule_of (found_too R q j) p))
+              (λ xs p n d. subst (Derived A xs p) (sym (ap (λ o. unwrap_or o 0) (how_other R sized q j p n))) d)
+              (subst (Derived A (take R.count R.order) q) (sym (ap (λ o. unwrap_or o 0) (how_here R sized q j (omega arith)))) last)
               g.1,
         )
 
@@ -55,13 +53,8 @@ module _ {W : Type 0} (A : Automaton W) where
       subst (λ S. Rising b S (j + 1)) (sym t.0)
       (g.0, g.1, g.2, λ e. below_more _ _ (g.3 e) (λ x h. let same : r ≡ x = cc in subst (Follows A R) same t.1))
   tried_more few R R' r j b there (inr t) g =
-      let sized : Sized (reached_too R r.target j) = record {
-        reached = length-set R.reached r.target true ∙ g.0.reached;
-        order = length-set R.order R.count r.target ∙ g.0.order;
-        rule = length-set R.rule r.target j ∙ g.0.rule;
-      } in
       subst (λ S. Rising b S (j + 1)) (sym t.0)
-      (sized, reaching_more few R g.0 g.1 r j there t.1 t.2 t.3, omega (arith, g.2), λ e. absurd (omega (arith, g.2)))
+      (sized_more R g.0 r.target j, reaching_more few R g.0 g.1 r j there t.1 t.2 t.3, omega (arith, g.2), λ e. absurd (omega (arith, g.2)))
 
-pub reaching_none : {W : Type 0} (A : Automaton W) → Reaching A (record { reached = replicate 48 false; order = replicate 48 0; count = 0; rule = replicate 48 0 })
+pub reaching_none : {W : Type 0} (A : Automaton W) → Reaching A none_found
 reaching_none A = (listed_none A.states, λ i h. absurd (omega arith))

@@ -1,6 +1,6 @@
-pub mod Children
 pub mod Derivations
 pub mod Following
+pub mod Founds
 pub mod Listings
 pub mod Lives
 pub mod Onward

@@ -1,4 +1,6 @@
 -- The states that are listed as live are the live ones, in a sound automaton.
+use Rattle.liveness.specs.Living.{lead_of}
+use Rattle.liveness.specs.Listings.{flags_of}
 use Rattle.std.proofs.Common.{◌≡◌, ℕ, ◌<◌, false, ◌⊎◌, List, ◌∷◌, get_or, take, Some, ◌∙◌, subst, inl, inr, arith}
 use Rattle.std.specs.List.{ContainsAt, AllByRecursion}
 use Rattle.std.proofs.ByRecursion.{All-weaker, all_has_itself}
@@ -14,8 +16,8 @@ use Rattle.automata.proofs.Rows.{Access, access}
 use Rattle.automata.proofs.Lives.{children_live, sign_accepting}
 use Rattle.automata.proofs.Signs.{weighs_sign}
 use Rattle.automata.proofs.Steps.{accepted_some}
-use Rattle.liveness.specs.declared.reach.Reach.{Reach}
-use Rattle.liveness.specs.declared.life.Life.{Life}
+use Rattle.liveness.specs.Listings.{Reach}
+use Rattle.liveness.specs.Living.{Life}
 use Rattle.liveness.specs.Listings.{Flagged}
 use Rattle.liveness.specs.Reaching.{Reached}
 use Rattle.liveness.specs.Living.{Leads, Accepts, Lively}
@@ -39,7 +41,7 @@ module _ {W : Type 0} (K : Weights W) (A : Automaton W) where
     led_live : (before : List ℕ) (q j k : ℕ) → ((p : ℕ) → ContainsAt before p → Live K A p) → Leads A R before q j k → Live K A q
     led_live before q j k earlier d =
         let r = d.rule in
-        let row : Access K A r.children = access K A r.children (All-weaker (Flagged R.reached) (Reachable K A) (λ p f. (reaches K A sound R reached p).0 f) r.children d.reached) in
+        let row : Access K A r.children = access K A r.children (All-weaker (Flagged (flags_of R)) (Reachable K A) (λ p f. (reaches K A sound R reached p).0 f) r.children d.reached) in
         let within = all_nth (Within A.ranks A.states) A.rules j r sound.within d.there in
         let all : AllByRecursion (Live K A) r.children =
         children_live K A r.symbol row.row (record { states = r.children; weight = row.weight }) r within.symbol_within (row.as_many ∙ within.children_rank) row.over row.runs_to
@@ -53,12 +55,12 @@ module _ {W : Type 0} (K : Weights W) (A : Automaton W) where
     -- along the order of discovery
     place_live : (i : ℕ) → i < L.count → Live K A (get_or L.order i 0)
     place_live = strong (λ i. i < L.count → Live K A (get_or L.order i 0)) (λ i before h.
-        listed_live (take i L.order) (get_or L.order i 0) (get_or L.rule (get_or L.order i 0) 0) (get_or L.place (get_or L.order i 0) 0) (λ p has.
+        listed_live (take i L.order) (get_or L.order i 0) (lead_of L (get_or L.order i 0)).rule (lead_of L (get_or L.order i 0)).place (λ p has.
         let x = place_before i L.order p has in
         subst (Live K A) x.3 (before x.0 x.1 (omega (arith, x.1)))) (lively.led i h))
 
     -- what a context takes to a listed state is listed
-    plug_flagged : (c : Context) (t : Tree) (a b : At W) → run K A t ≡ Some a → run K A (plug c t) ≡ Some b → Flagged L.live b.state → Flagged L.live a.state
+    plug_flagged : (c : Context) (t : Tree) (a b : At W) → run K A t ≡ Some a → run K A (plug c t) ≡ Some b → Flagged (flags_of L) b.state → Flagged (flags_of L) a.state
     plug_flagged hole t a b e f on = let same : b ≡ a = cc in rw (← same) on
     plug_flagged (under s before c after) t a b e f on =
         let ts = joined before (plug c t ▹ after) in
@@ -66,11 +68,11 @@ module _ {W : Type 0} (K : Weights W) (A : Automaton W) where
         let r = d.rule in
         let same = find_children A.rules s d.row.states r d.found in
         let has = find_all (ContainsAt A.rules) A.rules s d.row.states r (all_has_itself A.rules) d.found in
-        let all : AllByRecursion (Flagged L.live) r.children = lively.closed r has (rw same (runs_flagged K A sound R reached ts d.row d.row_is)) (rw d.reached at on) in
-        let x = row_part (Flagged L.live) before (plug c t) after d.row d.row_is (rw same at all) in
+        let all : AllByRecursion (Flagged (flags_of L)) r.children = lively.closed r has (rw same (runs_flagged K A sound R reached ts d.row d.row_is)) (rw d.reached at on) in
+        let x = row_part (Flagged (flags_of L)) before (plug c t) after d.row d.row_is (rw same at all) in
         plug_flagged c t a x.0 e x.1 x.2
 
-    live_flagged : (q : ℕ) → Live K A q → Flagged L.live q
+    live_flagged : (q : ℕ) → Live K A q → Flagged (flags_of L) q
     live_flagged q h =
         let t = h.reachable.tree in
         let c = h.sign.context in
@@ -78,6 +80,6 @@ module _ {W : Type 0} (K : Weights W) (A : Automaton W) where
         plug_flagged c t (record { state = q; weight = h.reachable.weight }) w.run_is h.reachable.runs_to w.there
         (lively.begins w.run_is.state (run_flagged K A sound R reached (plug c t) w.run_is w.there) w.accepts)
 
-    pub lives : DecidesLive K A (λ q. get_or L.live q false)
+    pub lives : DecidesLive K A (λ q. get_or (flags_of L) q false)
     lives q =
         ((λ f. let p = place_before L.count L.order q ((lively.listed.flagged q).0 f) in subst (Live K A) p.3 (place_live p.0 p.1)), live_flagged q)

@@ -1,49 +1,38 @@
 -- Going down from the accepting states: each state that is added is led on, and a pass that adds none leaves nothing to add.
-use Rattle.std.proofs.Common.{◌≡◌, ℕ, ◌+◌, ◌<◌, ◌≤◌, true, false, ◌⊎◌, List, [], ◌∷◌, length, get_or, take, set, replicate, Some, sym, refl, ◌∙◌, subst, inl, inr, ⊎_elim, arith, below_more}
+use Rattle.liveness.specs.Living.{lead_of}
+use Rattle.liveness.specs.Listings.{none_found, flags_of, found_too}
+use Rattle.std.proofs.Common.{◌≡◌, ℕ, ◌+◌, ◌<◌, ◌≤◌, false, ◌⊎◌, List, [], ◌∷◌, length, get_or, take, Some, None, Option, sym, refl, ap, ◌∙◌, subst, inl, inr, ⊎_elim, arith, below_more}
 use Rattle.std.specs.List.{AllByRecursion, slice_get}
-use Rattle.std.proofs.lemmas.List.{get_or-set_same, get_or-set_other, length-set}
 use Rattle.std.proofs.lemmas.Option.{slice_get-get_or}
 use Rattle.std.proofs.ByRecursion.{All-from_get_or}
 use Rattle.automata.specs.Automata.{Transition, Automaton}
 use Rattle.rules.specs.declared.rule.Rule.{Rule}
 use Rattle.rules.specs.declared.shape.Shape.{Shape}
 use Rattle.rules.specs.Shapes.{states_in, accepts_in, automaton}
-use Rattle.liveness.specs.declared.reach.Reach.{Reach}
-use Rattle.liveness.specs.declared.life.Life.{Life}
+use Rattle.liveness.specs.Listings.{Reach}
+use Rattle.liveness.specs.Living.{Life}
+use Rattle.liveness.specs.declared.life.Lead.{Lead}
+use Rattle.std.specs.Option.{unwrap_or}
 use Rattle.liveness.specs.Listings.{Flagged, Listed}
 use Rattle.liveness.specs.Reaching.{Reached}
-use Rattle.liveness.specs.Living.{Leads, Accepts, Lively, live_too, Noted, Begun, Living, GoesOn, Followed, Rests}
-use Rattle.liveness.proofs.Listings.{listed_none, listed_more, traced_more, flag_kept, flagged_within, set_here}
+use Rattle.liveness.specs.Living.{Leads, Accepts, Lively, Noted, Begun, Living, GoesOn, Followed, Rests}
+use Rattle.liveness.proofs.Listings.{listed_none, traced_more, flagged_within}
+use Rattle.liveness.proofs.Founds.{Sized, sized_more, flags_long, how_here, how_other, kept, here, listed_too}
 
 all_both : {X : Type 0} (P Q S : X → Type 0) → ((x : X) → P x → Q x → S x) → (xs : List X) → AllByRecursion P xs → AllByRecursion Q xs → AllByRecursion S xs
 all_both P Q S f [] p q = tt
 all_both P Q S f (x ∷ xs) p q = (f x p.0 q.0, all_both P Q S f xs p.1 q.1)
 
--- the arrays have their lengths
-pub record Sized (L : Life) : Type 0 where
-  pub live : length L.live ≡ 48
-  pub order : length L.order ≡ 48
-  pub rule : length L.rule ≡ 48
-  pub place : length L.place ≡ 48
-
-sized_more : (L : Life) (q j k : ℕ) → Sized L → Sized (live_too L q j k)
-sized_more L q j k s = record {
-  live = length-set L.live q true ∙ s.live;
-  order = length-set L.order L.count q ∙ s.order;
-  rule = length-set L.rule q j ∙ s.rule;
-  place = length-set L.place q k ∙ s.place;
-}
-
 -- the accepting states below n that are reached are listed, and nothing else
 pub record Beginning (shape : Shape) (R : Reach) (L : Life) (n : ℕ) : Type 0 where
   pub sized : Sized L
-  pub listed : Listed (states_in shape) L.live L.order L.count
+  pub listed : Listed (states_in shape) (flags_of L) L.order L.count
   pub accepting : (i : ℕ) → i < L.count → Accepts (accepts_in shape) R (get_or L.order i 0)
-  pub begins : (q : ℕ) → q < n → Accepts (accepts_in shape) R q → Flagged L.live q
+  pub begins : (q : ℕ) → q < n → Accepts (accepts_in shape) R q → Flagged (flags_of L) q
 
-pub beginning_none : (shape : Shape) (R : Reach) → Beginning shape R (record { live = replicate 48 false; order = replicate 48 0; count = 0; rule = replicate 48 0; place = replicate 48 0 }) 0
+pub beginning_none : (shape : Shape) (R : Reach) → Beginning shape R none_found 0
 beginning_none shape R = record {
-  sized = record { live = refl; order = refl; rule = refl; place = refl };
+  sized = record { how = refl; order = refl };
   listed = listed_none (states_in shape);
   accepting = λ i h. absurd (omega arith);
   begins = λ q h. absurd (omega arith);
@@ -57,22 +46,21 @@ beginning_past shape R L n b fails = record {
   begins = below_more _ _ b.begins (λ a. absurd (fails a));
 }
 
-pub beginning_more : (shape : Shape) (R : Reach) (L L' : Life) (n j k : ℕ) → n < states_in shape → states_in shape ≤ 48 → Beginning shape R L n → Accepts (accepts_in shape) R n → Noted (states_in shape) n j k L L' → Beginning shape R L' (n + 1)
-beginning_more shape R L L' n j k h few b a (inl t) =
+pub beginning_more : (shape : Shape) (R : Reach) (L L' : Life) (n : ℕ) (h : Option Lead) → n < states_in shape → states_in shape ≤ 48 → Beginning shape R L n → Accepts (accepts_in shape) R n → Noted (states_in shape) n h L L' → Beginning shape R L' (n + 1)
+beginning_more shape R L L' n h low few b a (inl t) =
     subst (λ S. Beginning shape R S (n + 1)) (sym t.0) (record {
       sized = b.sized;
       listed = b.listed;
       accepting = b.accepting;
-      begins = below_more _ _ b.begins (λ x. t.1 h);
+      begins = below_more _ _ b.begins (λ x. t.1 low);
     })
-beginning_more shape R L L' n j k h few b a (inr t) =
+beginning_more shape R L L' n h low few b a (inr t) =
     subst (λ S. Beginning shape R S (n + 1)) (sym t.0) (record {
-      sized = sized_more L n j k b.sized;
-      listed = listed_more (states_in shape) L.live L.order L.count b.sized.live b.sized.order few b.listed n h t.2;
-      accepting = traced_more (states_in shape) L.live L.order L.count b.sized.live b.sized.order few b.listed n h t.2
+      sized = sized_more L b.sized n h;
+      listed = listed_too L b.sized n h (states_in shape) few b.listed low t.2;
+      accepting = traced_more (states_in shape) (flags_of L) L.order L.count (flags_long L b.sized n h) b.sized.order few b.listed n low t.2
           (λ xs p. Accepts (accepts_in shape) R p) (λ xs p. Accepts (accepts_in shape) R p) (λ xs p m d. d) a b.accepting;
-      begins = below_more _ _ (λ q l x. flag_kept L.live n q (omega (arith, b.sized.live)) (b.begins q l x))
-          (λ x. set_here (states_in shape) L.live L.order L.count b.sized.live b.sized.order few b.listed n h t.2);
+      begins = below_more _ _ (λ q l x. kept L b.sized n h q (omega arith) (b.begins q l x)) (λ x. here L b.sized n h (states_in shape) few b.listed low t.2);
     })
 
 pub living_begun : {V W : Type 0} (stands : V → W) (shape : Shape) (rules : List (Rule V)) (R : Reach) (L : Life) → Begun shape R L → Living (automaton stands shape rules) R L
@@ -80,19 +68,20 @@ living_begun stands shape rules R L b = record { listed = b.listed; led = λ i h
 
 module _ {W : Type 0} (A : Automaton W) (R : Reach) where
   -- a state that a rule leads on to a target in the list is added
-  living_more : A.states ≤ 48 → (L : Life) → Sized L → Living A R L → (r : Transition W) (q j k : ℕ) → slice_get A.rules j ≡ Some r → AllByRecursion (Flagged R.reached) r.children → slice_get r.children k ≡ Some q → Flagged L.live r.target → q < A.states → get_or L.live q false ≡ false → Living A R (live_too L q j k)
-  living_more few L s g r q j k there all child target new off =
+  living_more : A.states ≤ 48 → (L : Life) → Sized L → Living A R L → (r : Transition W) (q : ℕ) (h : Lead) → slice_get A.rules h.rule ≡ Some r → AllByRecursion (Flagged (flags_of R)) r.children → slice_get r.children h.place ≡ Some q → Flagged (flags_of L) r.target → q < A.states → get_or (flags_of L) q false ≡ false → Living A R (found_too L q (Some h))
+  living_more few L s g r q h there all child target new off =
       let before = take L.count L.order in
-      let last : Leads A R before q j k = record { rule = r; there = there; reached = all; child = child; target = (g.listed.flagged r.target).0 target } in
+      let last : Leads A R before q h.rule h.place = record { rule = r; there = there; reached = all; child = child; target = (g.listed.flagged r.target).0 target } in
+      let lead : lead_of (found_too L q (Some h)) q ≡ h = ap (λ o. unwrap_or (unwrap_or o None) (record { rule = 0; place = 0 })) (how_here L s q (Some h) (omega arith)) in
       record {
-        listed = listed_more A.states L.live L.order L.count s.live s.order few g.listed q new off;
-        led = traced_more A.states L.live L.order L.count s.live s.order few g.listed q new off
-            (λ xs p. Accepts A.accepting R p ⊎ Leads A R xs p (get_or L.rule p 0) (get_or L.place p 0))
-            (λ xs p. Accepts A.accepting R p ⊎ Leads A R xs p (get_or (set L.rule q j) p 0) (get_or (set L.place q k) p 0))
-            (λ xs p n. ⊎_elim inl (λ d. inr (rw (get_or-set_other L.rule q p j 0 n, get_or-set_other L.place q p k 0 n) d)))
-            (inr (rw (get_or-set_same L.rule q j 0 (omega (arith, s.rule)), get_or-set_same L.place q k 0 (omega (arith, s.place))) last))
+        listed = listed_too L s q (Some h) A.states few g.listed new off;
+        led = traced_more A.states (flags_of L) L.order L.count (flags_long L s q (Some h)) s.order few g.listed q new off
+            (λ xs p. Accepts A.accepting R p ⊎ Leads A R xs p (lead_of L p).rule (lead_of L p).place)
+            (λ xs p. Accepts A.accepting R p ⊎ Leads A R xs p (lead_of (found_too L q (Some h)) p).rule (lead_of (found_too L q (Some h)) p).place)
+            (λ xs p n. ⊎_elim inl (λ d. inr (subst (λ (l : Lead). Leads A R xs p l.rule l.place) (sym (ap (λ o. unwrap_or (unwrap_or o None) (record { rule = 0; place = 0 })) (how_other L s q (Some h) p n))) d)))
+            (inr (subst (λ (l : Lead). Leads A R before q l.rule l.place) (sym lead) last))
             g.led;
-        begins = λ p h a. flag_kept L.live q p (omega (arith, s.live)) (g.begins p h a);
+        begins = λ p l a. kept L s q (Some h) p (omega arith) (g.begins p l a);
       }
 
   -- the first k children of the rule r, whose target is in the list, have been noted, from L on
@@ -100,11 +89,11 @@ module _ {W : Type 0} (A : Automaton W) (R : Reach) where
     pub sized : Sized L'
     pub living : Living A R L'
     pub longer : L.count ≤ L'.count
-    pub target : Flagged L'.live r.target
+    pub target : Flagged (flags_of L') r.target
     pub same : L'.count ≡ L.count → L' ≡ L
-    pub noted : L'.count ≡ L.count → (i : ℕ) → i < k → get_or r.children i 0 < A.states → Flagged L.live (get_or r.children i 0)
+    pub noted : L'.count ≡ L.count → (i : ℕ) → i < k → get_or r.children i 0 < A.states → Flagged (flags_of L) (get_or r.children i 0)
 
-  pub leading_more : A.states ≤ 48 → (r : Transition W) (L L' L'' : Life) (j k : ℕ) → slice_get A.rules j ≡ Some r → AllByRecursion (Flagged R.reached) r.children → k < length r.children → Leading r L L' k → Noted A.states (get_or r.children k 0) j k L' L'' → Leading r L L'' (k + 1)
+  pub leading_more : A.states ≤ 48 → (r : Transition W) (L L' L'' : Life) (j k : ℕ) → slice_get A.rules j ≡ Some r → AllByRecursion (Flagged (flags_of R)) r.children → k < length r.children → Leading r L L' k → Noted A.states (get_or r.children k 0) (Some (record { rule = j; place = k })) L' L'' → Leading r L L'' (k + 1)
   leading_more few r L L' L'' j k there all h g (inl t) =
       subst (λ S. Leading r L S (k + 1)) (sym t.0) (record {
         sized = g.sized;
@@ -112,16 +101,17 @@ module _ {W : Type 0} (A : Automaton W) (R : Reach) where
         longer = g.longer;
         target = g.target;
         same = g.same;
-        noted = λ e. below_more _ _ (g.noted e) (subst (λ (S : Life). get_or r.children k 0 < A.states → Flagged S.live (get_or r.children k 0)) (g.same e) t.1);
+        noted = λ e. below_more _ _ (g.noted e) (subst (λ (S : Life). get_or r.children k 0 < A.states → Flagged (flags_of S) (get_or r.children k 0)) (g.same e) t.1);
       })
   leading_more few r L L' L'' j k there all h g (inr t) =
       let q = get_or r.children k 0 in
+      let lead : Lead = record { rule = j; place = k } in
       let absurdly : L'.count + 1 ≡ L.count → ⊥ = λ e. omega (arith, g.longer) in
       subst (λ S. Leading r L S (k + 1)) (sym t.0) (record {
-        sized = sized_more L' q j k g.sized;
-        living = living_more few L' g.sized g.living r q j k there all (slice_get-get_or r.children k 0 h) g.target t.1 t.2;
+        sized = sized_more L' g.sized q (Some lead);
+        living = living_more few L' g.sized g.living r q lead there all (slice_get-get_or r.children k 0 h) g.target t.1 t.2;
         longer = omega (arith, g.longer);
-        target = flag_kept L'.live q r.target (omega (arith, g.sized.live, t.1)) g.target;
+        target = kept L' g.sized q (Some lead) r.target (omega (arith, t.1)) g.target;
         same = λ e. absurd (absurdly e);
         noted = λ e. absurd (absurdly e);
       })
@@ -133,8 +123,8 @@ module _ {W : Type 0} (A : Automaton W) (R : Reach) where
     same = g.same;
     goes_on = λ e x f all on.
         let is : r ≡ x = cc in
-        subst (λ (y : Transition W). AllByRecursion (λ c. c < A.states → Flagged L.live c) y.children) is
-        (All-from_get_or (λ c. c < A.states → Flagged L.live c) r.children 0 (λ i l. g.noted e i (omega arith)));
+        subst (λ (y : Transition W). AllByRecursion (λ c. c < A.states → Flagged (flags_of L) c) y.children) is
+        (All-from_get_or (λ c. c < A.states → Flagged (flags_of L) c) r.children 0 (λ i l. g.noted e i (omega arith)));
   }
 
   -- a rule that adds nothing
@@ -166,8 +156,8 @@ module _ {W : Type 0} (A : Automaton W) (R : Reach) where
   lively L g rests reached = record {
     listed = g.listed;
     led = g.led;
-    begins = λ q f a. g.begins q (flagged_within A.states R.reached R.order R.count reached.listed q f) (a, f);
+    begins = λ q f a. g.begins q (flagged_within A.states (flags_of R) R.order R.count reached.listed q f) (a, f);
     closed = λ r h all on.
-        all_both (Flagged R.reached) (λ c. c < A.states → Flagged L.live c) (Flagged L.live)
-        (λ c f k. k (flagged_within A.states R.reached R.order R.count reached.listed c f)) r.children all (rests r h all on);
+        all_both (Flagged (flags_of R)) (λ c. c < A.states → Flagged (flags_of L) c) (Flagged (flags_of L))
+        (λ c f k. k (flagged_within A.states (flags_of R) R.order R.count reached.listed c f)) r.children all (rests r h all on);
   }

@@ -1,4 +1,6 @@
 -- The states that are reached are the reachable ones, in a sound automaton.
+use Rattle.liveness.specs.Reaching.{rule_of}
+use Rattle.liveness.specs.Listings.{flags_of}
 use Rattle.std.proofs.Common.{◌≡◌, ℕ, zero, suc, ◌<◌, Bool, true, false, cond, ◌↔◌, List, [], ◌∷◌, get_or, take, Some, None, refl, ap, ◌∙◌, subst, arith}
 use Rattle.std.specs.List.{ContainsAt, AllByRecursion, slice_get}
 use Rattle.std.proofs.ByRecursion.{All-weaker, all_has_itself}
@@ -10,7 +12,7 @@ use Rattle.automata.specs.Contexts.{Reachable}
 use Rattle.automata.proofs.Finds.{fits_symbol, fits_children, fits_itself, find_children, find_all}
 use Rattle.automata.proofs.Steps.{beside_some, step_some}
 use Rattle.automata.proofs.Rows.{Access, access}
-use Rattle.liveness.specs.declared.reach.Reach.{Reach}
+use Rattle.liveness.specs.Listings.{Reach}
 use Rattle.liveness.specs.Listings.{Flagged}
 use Rattle.liveness.specs.Reaching.{Reached}
 use Rattle.liveness.proofs.Listings.{place_before}
@@ -66,26 +68,26 @@ module _ {W : Type 0} where
         All-weaker (ContainsAt (take i R.order)) (Reachable K A) (λ c has.
         let p = place_before i R.order c has in
         subst (Reachable K A) p.3 (before p.0 p.1 (omega (arith, p.1)))) d.rule.children d.children in
-        subst (Reachable K A) d.target (target_reachable K A sound (get_or R.rule (get_or R.order i 0) 0) d.rule d.there children))
+        subst (Reachable K A) d.target (target_reachable K A sound (rule_of R (get_or R.order i 0)) d.rule d.there children))
 
     -- the state of every run is flagged
     mutual
-      pub run_flagged : (t : Tree) (a : At W) → run K A t ≡ Some a → Flagged R.reached a.state
+      pub run_flagged : (t : Tree) (a : At W) → run K A t ≡ Some a → Flagged (flags_of R) a.state
       run_flagged (node s ts) a e =
           let d = step_some K A s (runs K A ts) a e in
           let same = find_children A.rules s d.row.states d.rule d.found in
           let has = find_all (ContainsAt A.rules) A.rules s d.row.states d.rule (all_has_itself A.rules) d.found in
           let within = find_all (Within A.ranks A.states) A.rules s d.row.states d.rule sound.within d.found in
-          let on : Flagged R.reached d.rule.target = reached.closed d.rule has (rw same (runs_flagged ts d.row d.row_is)) within.target_within in
+          let on : Flagged (flags_of R) d.rule.target = reached.closed d.rule has (rw same (runs_flagged ts d.row d.row_is)) within.target_within in
           rw d.reached on
 
-      pub runs_flagged : (ts : Row) (b : Ats W) → runs K A ts ≡ Some b → AllByRecursion (Flagged R.reached) b.states
+      pub runs_flagged : (ts : Row) (b : Ats W) → runs K A ts ≡ Some b → AllByRecursion (Flagged (flags_of R)) b.states
       runs_flagged none b e = let i : b ≡ record { states = []; weight = K.one } = cc in rw i tt
       runs_flagged (t ▹ ts) b e =
           let d = beside_some K (run K A t) (runs K A ts) b e in
           rw d.both (run_flagged t d.first d.first_is, runs_flagged ts d.rest d.rest_is)
 
-    pub reaches : (q : ℕ) → Flagged R.reached q ↔ Reachable K A q
+    pub reaches : (q : ℕ) → Flagged (flags_of R) q ↔ Reachable K A q
     reaches q = (
       (λ f. let p = place_before R.count R.order q ((reached.listed.flagged q).0 f) in subst (Reachable K A) p.3 (place_reachable p.0 p.1)),
       (λ h. run_flagged h.tree (record { state = q; weight = h.weight }) h.runs_to),

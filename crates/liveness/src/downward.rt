@@ -1,35 +1,23 @@
 // Finding the live states, from the accepting ones down.
-ghost use Rattle.std.specs.Prelude.{◌≡◌, ◌<◌, ◌≤◌, true, false, length};
-ghost use Rattle.rules.specs.Shapes.{automaton};
-ghost use Rattle.liveness.specs.Listings.{Listed};
+ghost use Rattle.std.specs.Prelude.{◌≡◌, ◌<◌, ◌≤◌, true, false, slice_get};
+ghost use Rattle.rules.specs.Shapes.{ranks_in, transition, automaton_of};
+ghost use Rattle.liveness.specs.Listings.{flags_of, Listed};
 ghost use Rattle.liveness.specs.Reaching.{Reached};
-ghost use Rattle.liveness.specs.Living.{Lively, live_too, Noted, Begun, Living, Followed, Rests};
+ghost use Rattle.liveness.specs.Living.{Lively, Noted, Begun, Living, Followed, Rests};
 
-use crate::flags::{all_set, child, is_set};
-use crate::life::Life;
+use crate::found::Found;
+use crate::life::{Lead, Life};
 use crate::reach::Reach;
 use kinds::Kind;
-use rules::{Rule, Shape};
-
-// Adds a state, in this child place of the rule at this place.
-fn add_live(life: &mut Life, state: usize, rule: usize, place: usize)
-    requires { (state < 48) × (life.old.count < 48) }
-    ensures { life.new ≡ live_too life.old state rule place }
-{
-    life.live[state] = true;
-    life.order[life.count] = state;
-    life.count += 1;
-    life.rule[state] = rule;
-    life.place[state] = place;
-}
+use rules::{Rule, Shape, Table};
 
 // Adds a state if it is one and new.
-fn note(states: usize, state: usize, rule: usize, place: usize, life: &mut Life)
-    requires { (states ≤ 48) × (Listed states life.old.live life.old.order life.old.count) }
-    ensures { Noted states state rule place life.old life.new }
+fn note(states: usize, state: usize, lead: Option<Lead>, life: &mut Life)
+    requires { (states ≤ 48) × (Listed states (flags_of life.old) life.old.order life.old.count) }
+    ensures { Noted states state lead life.old life.new }
 {
-    if state < states && !is_set(&life.live, state) {
-        add_live(life, state, rule, place);
+    if state < states && !life.has(state) {
+        life.add(state, lead);
     }
 }
 
@@ -37,58 +25,50 @@ fn note(states: usize, state: usize, rule: usize, place: usize, life: &mut Life)
 fn begin(shape: &Shape, reach: &Reach) -> Life
     ensures { Begun shape.now reach.now result }
 {
-    let mut life = Life {
-        live: [false; 48],
-        order: [0; 48],
-        count: 0,
-        rule: [0; 48],
-        place: [0; 48],
-    };
+    let mut life = Found::none();
     let states = shape.states();
     for q in 0..states {
-        if shape.is_accepting(q) && is_set(&reach.reached, q) {
-            note(states, q, 0, 0, &mut life);
+        if shape.is_accepting(q) && reach.has(q) {
+            note(states, q, None, &mut life);
         }
     }
     life
 }
 
-// Adds the children of a rule if its target is live and all of them are reached.
-fn follow<W: Kind>(shape: &Shape, rules: &[Rule<W>], reach: &Reach, at: usize, life: &mut Life)
-    requires { (at < length rules.now) × (Living (automaton W.Kind.stands shape.now rules.now) reach.now life.old) }
-    ensures { Followed (automaton W.Kind.stands shape.now rules.now) reach.now at life.old life.new }
+// Adds the children of the rule at a place if its target is live and all of them are reached.
+fn follow<W: Kind>(table: &Table<W>, reach: &Reach, at: usize, rule: &Rule<W>, life: &mut Life)
+    requires { (slice_get (automaton_of W.Kind.stands table.now).rules at ≡ Some (transition W.Kind.stands (ranks_in table.now.shape.now) rule.now)) × (Living (automaton_of W.Kind.stands table.now) reach.now life.old) }
+    ensures { Followed (automaton_of W.Kind.stands table.now) reach.now at life.old life.new }
 {
-    let rule = rules[at];
-    if !is_set(&life.live, usize::from(rule.target)) {
+    let children = table.shape.children(&rule.left);
+    if !life.has(usize::from(rule.target)) || !reach.has_all(children) {
         return;
     }
-    if !all_set(&reach.reached, shape, &rule.left) {
-        return;
-    }
-    for k in 0..shape.rank(usize::from(rule.left.symbol)) {
-        note(shape.states(), child(&rule.left, k), at, k, life);
+    for (k, child) in children.iter().enumerate() {
+        let lead = Lead { rule: at, place: k };
+        note(table.shape.states(), usize::from(*child), Some(lead), life);
     }
 }
 
 // Follows every rule once, and says whether a state was added.
-fn pass_down<W: Kind>(shape: &Shape, rules: &[Rule<W>], reach: &Reach, life: &mut Life) -> bool
-    requires { Living (automaton W.Kind.stands shape.now rules.now) reach.now life.old }
-    ensures living { Living (automaton W.Kind.stands shape.now rules.now) reach.now life.new }
+fn pass_down<W: Kind>(table: &Table<W>, reach: &Reach, life: &mut Life) -> bool
+    requires { Living (automaton_of W.Kind.stands table.now) reach.now life.old }
+    ensures living { Living (automaton_of W.Kind.stands table.now) reach.now life.new }
     ensures more { result ≡ true → life.old.count < life.new.count }
-    ensures rest { result ≡ false → Rests (automaton W.Kind.stands shape.now rules.now) reach.now life.new }
+    ensures rest { result ≡ false → Rests (automaton_of W.Kind.stands table.now) reach.now life.new }
 {
     let before = life.count;
-    for i in 0..rules.len() {
-        follow(shape, rules, reach, i, life);
+    for (i, rule) in table.rules.iter().enumerate() {
+        follow(table, reach, i, rule, life);
     }
     before < life.count
 }
 
 // The live states, given those that are reached.
-pub fn find_live<W: Kind>(shape: &Shape, rules: &[Rule<W>], reach: &Reach) -> Life
-    ensures { Reached (automaton W.Kind.stands shape.now rules.now) reach.now → Lively (automaton W.Kind.stands shape.now rules.now) reach.now result }
+pub fn find_live<W: Kind>(table: &Table<W>, reach: &Reach) -> Life
+    ensures { Reached (automaton_of W.Kind.stands table.now) reach.now → Lively (automaton_of W.Kind.stands table.now) reach.now result }
 {
-    let mut life = begin(shape, reach);
-    while pass_down(shape, rules, reach, &mut life) {}
+    let mut life = begin(table.shape, reach);
+    while pass_down(table, reach, &mut life) {}
     life
 }

@@ -2,13 +2,13 @@
 #![tactic(auto)]
 
 mod downward;
-mod flags;
+mod found;
 mod life;
 mod reach;
 mod upward;
 
 pub use downward::find_live;
-pub use flags::{all_set, is_set};
-pub use life::Life;
+pub use found::Found;
+pub use life::{Lead, Life};
 pub use reach::Reach;
 pub use upward::find_reached;

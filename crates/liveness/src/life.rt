@@ -1,10 +1,25 @@
-// The live states. The first `count` places of `order` hold them, in the order of their discovery. A live state is accepting, or `rule` has
-// the place of a rule that leads it on, to a target that comes before it, and `place` has its child place there.
-#[derive(Clone, Copy)]
-pub struct Life {
-    pub live: [bool; 48],
-    pub order: [usize; 48],
-    pub count: usize,
-    pub rule: [usize; 48],
-    pub place: [usize; 48],
+// The live states. Each is accepting, or a rule leads it on.
+ghost use Rattle.std.specs.Prelude.{◌≡◌};
+ghost use Rattle.liveness.specs.Living.{lead_of};
+
+use crate::found::Found;
+
+// A rule that leads a state on, by its place, to a target that was found before, and the state's child place there.
+#[derive(Clone, Copy, PartialEq, Eq, Debug)]
+pub struct Lead {
+    pub rule: usize,
+    pub place: usize,
+}
+
+pub type Life = Found<Option<Lead>>;
+
+impl Found<Option<Lead>> {
+    // The rule that leads a state on; the first, at its first child, if there is none.
+    pub fn lead(&self, state: usize) -> Lead
+        ensures { result ≡ lead_of self.now state }
+    {
+        self.how(state)
+            .flatten()
+            .unwrap_or(Lead { rule: 0, place: 0 })
+    }
 }

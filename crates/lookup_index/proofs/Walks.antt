@@ -9,8 +9,9 @@ use Rattle.automata.specs.Automata.{same_list}
 use Rattle.automata.proofs.Finds.{same_list_true}
 use Rattle.trees.proofs.Ranks.{nth_some}
 use Rattle.rules.specs.declared.rule.Rule.{Rule}
-use Rattle.rules.specs.Lookup.{has_left, position}
-use Rattle.rules.proofs.Positions.{position_more, position_found, position_within}
+use Rattle.rules.specs.Lookup.{has_left}
+use Rattle.lookup_index.specs.Indexes.{first_place}
+use Rattle.lookup_index.proofs.Positions.{position_more, position_found, position_within}
 use Rattle.lookup_index.specs.declared.rule_index.RuleIndex.{RuleIndex}
 use Rattle.lookup_index.specs.Hashing.{hash_of, left_hash}
 use Rattle.lookup_index.specs.Indexes.{head_of, next_of, link, has_hash, Indexes}
@@ -19,8 +20,8 @@ use Rattle.lookup_index.proofs.Hashes.{hash_small}
 
 -- no rule before `past` has the left side, and `next` is the link to the first of the hash from there on
 pub record Walked {V : Type 0} (ranks : List ℕ) (rules : List (Rule V)) (s : ℕ) (qs : List ℕ) (past next : ℕ) : Type 0 where
-  pub none : position (λ r. has_left s qs r.left) (take past rules) ≡ None
-  pub linked : next ≡ link past (position (has_hash ranks (hash_of s qs)) (drop past rules))
+  pub none : first_place (λ r. has_left s qs r.left) (take past rules) ≡ None
+  pub linked : next ≡ link past (first_place (has_hash ranks (hash_of s qs)) (drop past rules))
 
 module _ {V : Type 0} (ranks : List ℕ) (x : RuleIndex) (rules : List (Rule V)) (s : ℕ) (qs : List ℕ) (indexed : Indexes ranks x rules) (fits : length qs ≡ rank ranks s) where
   abbrev has : Rule V → Bool
@@ -44,10 +45,10 @@ module _ {V : Type 0} (ranks : List ℕ) (x : RuleIndex) (rules : List (Rule V))
 
   module _ (past next : ℕ) (walked : Walked ranks rules s qs past next) where
     -- the end of the chain
-    pub walk_end : (next ≤ past) ⊎ (length rules < next) → position has rules ≡ None
-    walk_end ended = at (position hashed (drop past rules)) refl
+    pub walk_end : (next ≤ past) ⊎ (length rules < next) → first_place has rules ≡ None
+    walk_end ended = at (first_place hashed (drop past rules)) refl
       where
-        at : (o : Option ℕ) → position hashed (drop past rules) ≡ o → position has rules ≡ None
+        at : (o : Option ℕ) → first_place hashed (drop past rules) ≡ o → first_place has rules ≡ None
         at None f = none_behind has rules past walked.none (none_passes has hashed hash_agrees (drop past rules) f)
         at (Some j) f =
             let ahead : next ≡ suc (past + j) = walked.linked ∙ ap (link past) f in
@@ -55,19 +56,19 @@ module _ {V : Type 0} (ranks : List ℕ) (x : RuleIndex) (rules : List (Rule V))
 
     module _ (low : past < next) (high : next ≤ length rules) (r : Rule V) (here : slice_get rules (next - 1) ≡ Some r) where
       -- how far the rule is behind `past`
-      ahead : (j : ℕ) × ((position hashed (drop past rules) ≡ Some j) × (next - 1 ≡ past + j))
-      ahead = at (position hashed (drop past rules)) refl
+      ahead : (j : ℕ) × ((first_place hashed (drop past rules) ≡ Some j) × (next - 1 ≡ past + j))
+      ahead = at (first_place hashed (drop past rules)) refl
         where
-          at : (o : Option ℕ) → position hashed (drop past rules) ≡ o → (j : ℕ) × ((position hashed (drop past rules) ≡ Some j) × (next - 1 ≡ past + j))
+          at : (o : Option ℕ) → first_place hashed (drop past rules) ≡ o → (j : ℕ) × ((first_place hashed (drop past rules) ≡ Some j) × (next - 1 ≡ past + j))
           at None f = let zero_link : next ≡ 0 = walked.linked ∙ ap (link past) f in absurd (omega arith)
           at (Some j) f = let one_on : next ≡ suc (past + j) = walked.linked ∙ ap (link past) f in (j, (f, omega arith))
 
       found : (next - 1 < length rules) × (get_or rules (next - 1) r ≡ r)
       found = nth_some rules (next - 1) r r here
 
-      none_up_to : position has (take (next - 1) rules) ≡ None
+      none_up_to : first_place has (take (next - 1) rules) ≡ None
       none_up_to =
-          ap (λ n. position has (take n rules)) ahead.1.1
+          ap (λ n. first_place has (take n rules)) ahead.1.1
           ∙ none_further has rules past ahead.0 walked.none (none_before has hashed hash_agrees (drop past rules) ahead.0 ahead.1.0)
 
       same_hash : left_hash ranks r.left ≡ hash_of s qs
@@ -77,14 +78,14 @@ module _ {V : Type 0} (ranks : List ℕ) (x : RuleIndex) (rules : List (Rule V))
           ∙ ap Some (get_or-drop past rules ahead.0 r ∙ ap (λ n. get_or rules n r) (sym ahead.1.1) ∙ found.1) in
           sym (eqb-true (hash_of s qs) (left_hash ranks r.left) (first_passes hashed (drop past rules) ahead.0 r ahead.1.0 there))
 
-      pub walk_found : has r ≡ true → position has rules ≡ Some (next - 1)
+      pub walk_found : has r ≡ true → first_place has rules ≡ Some (next - 1)
       walk_found passes = position_found has rules (next - 1) r found.0 (sym found.1) none_up_to passes
 
       pub walk_more : has r ≡ false → Walked ranks rules s qs next (next_of x (next - 1))
       walk_more fails = record {
-        none = ap (λ n. position has (take n rules)) (let up : next ≡ next - 1 + 1 = omega arith in up) ∙ position_more has rules (next - 1) r found.0 (sym found.1) none_up_to fails;
+        none = ap (λ n. first_place has (take n rules)) (let up : next ≡ next - 1 + 1 = omega arith in up) ∙ position_more has rules (next - 1) r found.0 (sym found.1) none_up_to fails;
         linked =
             indexed.nexts (next - 1) r (omega arith) here
-            ∙ ap (λ n. link n (position (has_hash ranks (left_hash ranks r.left)) (drop n rules))) (let up : suc (next - 1) ≡ next = omega arith in up)
-            ∙ ap (λ h. link next (position (has_hash ranks h) (drop next rules))) same_hash;
+            ∙ ap (λ n. link n (first_place (has_hash ranks (left_hash ranks r.left)) (drop n rules))) (let up : suc (next - 1) ≡ next = omega arith in up)
+            ∙ ap (λ h. link next (first_place (has_hash ranks h) (drop next rules))) same_hash;
       }

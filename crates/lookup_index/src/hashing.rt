@@ -16,21 +16,15 @@ fn mix(hash: usize, number: usize) -> usize
 pub fn hash(symbol: usize, children: &[usize]) -> usize
     ensures { result ≡ hash_of symbol children.now }
 {
-    let mut hash = mix(0, symbol);
-    for q in children {
-        hash = mix(hash, *q);
-    }
-    hash
+    children
+        .iter()
+        .fold(mix(0, symbol), |hash, state| mix(hash, *state))
 }
 
 // The hash of a rule's left side.
 pub fn rule_hash(shape: &Shape, left: &LeftSide) -> usize
     ensures { result ≡ left_hash (ranks_in shape.now) left.now }
 {
-    let rank = shape.rank(usize::from(left.symbol));
-    let mut hash = mix(0, usize::from(left.symbol));
-    for k in 0..rank {
-        hash = mix(hash, usize::from(left.children[k]));
-    }
-    hash
+    let symbol = usize::from(left.symbol);
+    hash(symbol, &left.states()[..shape.rank(symbol)])
 }

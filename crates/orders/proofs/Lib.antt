@@ -1,5 +1,3 @@
 pub mod Codes
 pub mod Filled
-pub mod Fours
 pub mod Lines
-pub mod Padding

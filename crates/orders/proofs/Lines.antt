@@ -1,6 +1,6 @@
 -- Lines that are added one by one.
-use Rattle.std.proofs.Common.{◌≡◌, ℕ, ◌+◌, ◌<◌, ◌≤◌, List, [], ◌∷◌, ◌++◌, length, get_or, take, refl, ap, ◌∙◌}
-use Rattle.std.proofs.lemmas.List.{take_more, take_all}
+use Rattle.std.proofs.Common.{◌≡◌, ℕ, ◌+◌, ◌<◌, List, [], ◌∷◌, ◌++◌, length, get_or, take, refl, ap}
+use Rattle.std.proofs.lemmas.List.{take_more}
 use Rattle.kinds.specs.declared.cost.Cost.{Cost}
 use Rattle.rules.specs.Books.{Book, added}
 use Rattle.orders.specs.declared.line.Line.{Line}
@@ -12,6 +12,3 @@ added_last b (k ∷ ls) l = added_last (added b (line_rule k)) ls l
 
 pub added_more : (b b₁ b₂ : Book Cost) (ls : List Line) (i : ℕ) (d : Line) → i < length ls → b₁ ≡ lines_added b (take i ls) → b₂ ≡ added b₁ (line_rule (get_or ls i d)) → b₂ ≡ lines_added b (take (i + 1) ls)
 added_more b b₁ b₂ ls i d h e f = let more = ap (lines_added b) (take_more ls i d h) in let last = added_last b (take i ls) (get_or ls i d) in cc
-
-pub added_all : (b b₁ : Book Cost) (ls : List Line) (i : ℕ) → length ls ≤ i → b₁ ≡ lines_added b (take i ls) → b₁ ≡ lines_added b ls
-added_all b b₁ ls i h e = e ∙ ap (lines_added b) (take_all i ls h)

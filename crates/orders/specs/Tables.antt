@@ -1,5 +1,5 @@
 -- The table that a list of lines stands for, and the book that they give.
-use Rattle.std.specs.Prelude.{ℕ, List, [], ◌∷◌, map, take, ◌==◌}
+use Rattle.std.specs.Prelude.{◌≡◌, ℕ, List, [], ◌∷◌, map, ◌==◌}
 use Rattle.kinds.specs.declared.cost.Cost.{Cost}
 use Rattle.kinds.specs.Costs.{cost, costs}
 use Rattle.automata.specs.Automata.{Transition, Automaton}
@@ -11,7 +11,9 @@ use Rattle.rules.specs.Weighing.{Says}
 use Rattle.orders.specs.declared.state.State.{State}
 use Rattle.orders.specs.declared.state.State.TheVariants.{Text, Whole, Decimal, Missing, Customer, Quantity, Price, Note, Item, Items, Order}
 use Rattle.orders.specs.declared.line.Line.{Line}
-use Rattle.orders.specs.Symbols.{symbol_number, symbol_rank, order_ranks}
+use Rattle.orders.specs.declared.reading.Reading.{Reading}
+use Rattle.orders.specs.declared.table.Weighed.{Weighed}
+use Rattle.orders.specs.Symbols.{symbol_number, order_ranks}
 
 abbrev pub state_number : State → ℕ
 state_number Text = 0
@@ -26,11 +28,11 @@ state_number Item = 8
 state_number Items = 9
 state_number Order = 10
 
--- the rule of a line: the first places, as many as the symbol's rank, are its children
+-- the rule of a line
 abbrev pub line_rule : Line → Transition Cost
 line_rule l = record {
   symbol = symbol_number l.symbol;
-  children = take (symbol_rank l.symbol) (map state_number l.children);
+  children = map state_number l.children.now;
   target = state_number l.target;
   weight = cost l.cost;
 }
@@ -47,3 +49,7 @@ order_table ls = record { ranks = order_ranks; states = 11; accepting = λ q. (q
 -- what that table says of the tree of a list
 abbrev pub SaysOrder : List Line → List Node → Weighing Cost → Type 0
 SaysOrder ls ns w = Says (λ v. v) costs (order_table ls) (tree_of order_ranks ns) w
+
+-- the reading is this one, and what is said of it is what the table says of its tree
+abbrev pub Judges : List Line → Reading → Weighed → Type 0
+Judges ls r w = (w.reading.now ≡ r) × SaysOrder ls r.entries.items w.weighing

@@ -1,6 +1,6 @@
 // Which of two weighings is better.
-ghost use Rattle.std.specs.Prelude.{◌≡◌};
-ghost use Rattle.orders.specs.Choosing.{cost_in, Chooses};
+ghost use Rattle.std.specs.Prelude.{◌≡◌, ◌↔◌, IsTrue};
+ghost use Rattle.orders.specs.Choosing.{cost_in, Beats, Chooses};
 
 use kinds::{Cost, Kind};
 use rules::Weighing;
@@ -14,15 +14,15 @@ pub enum Which {
 
 impl fmt::Display for Which {
     fn fmt<W: fmt::Write>(&self, f: &mut fmt::Formatter<W>) -> fmt::Result {
-        match self {
-            Which::First => write!(f, "first"),
-            Which::Second => write!(f, "second"),
-        }
+        f.write_str(match self {
+            Which::First => "first",
+            Which::Second => "second",
+        })
     }
 }
 
 // The cost that a weighing gives, if it gives a weight.
-pub fn cost(weighing: Weighing<Cost>) -> Option<i64>
+fn cost(weighing: Weighing<Cost>) -> Option<i64>
     ensures { result ≡ cost_in weighing }
 {
     match weighing {
@@ -31,20 +31,20 @@ pub fn cost(weighing: Weighing<Cost>) -> Option<i64>
     }
 }
 
-// The lower of two costs; one beats none, and of two alike the first is chosen.
-fn lower(first: Option<i64>, second: Option<i64>) -> Which
-    ensures { Chooses first second result }
+// Whether a cost is lower than the other, or there is no other.
+fn beats(cost: Option<i64>, other: Option<i64>) -> bool
+    ensures { IsTrue result ↔ Beats cost other }
 {
-    match (first, second) {
-        (Some(a), Some(b)) => if b < a { Which::Second } else { Which::First },
-        (None, Some(_)) => Which::Second,
-        (_, None) => Which::First,
-    }
+    cost.is_some_and(|cost| other.is_none_or(|other| cost < other))
 }
 
-// The better of two weighings.
+// The better of two weighings; of two alike the first is chosen.
 pub fn better(first: Weighing<Cost>, second: Weighing<Cost>) -> Which
     ensures { Chooses (cost_in first) (cost_in second) result }
 {
-    lower(cost(first), cost(second))
+    if beats(cost(second), cost(first)) {
+        Which::Second
+    } else {
+        Which::First
+    }
 }

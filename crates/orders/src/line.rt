@@ -5,8 +5,7 @@ use crate::symbol::Symbol;
 #[derive(Clone, Copy)]
 pub struct Line {
     pub symbol: Symbol,
-    // the first places, as many as the symbol's rank
-    pub children: [State; 4],
+    pub children: &'static [State],
     pub target: State,
     pub cost: i32,
 }

@@ -27,13 +27,8 @@ fn run(rt: &HostRuntime) -> Result<(), Fault> {
         return Err(Fault::Readings(readings.len()));
     };
     let lines = lines();
-    let weighed = weigh_both(
-        heap,
-        &lines,
-        first.entries.as_slice(),
-        second.entries.as_slice(),
-    )?;
-    print_report(rt, lines.len(), first, second, &weighed)?;
+    let verdict = weigh_both(heap, &lines, first, second)?;
+    print_report(rt, lines.len(), &verdict)?;
     Ok(())
 }
 

@@ -2,7 +2,7 @@
 ghost use Rattle.orders.specs.Entries.{Made};
 
 use crate::fault::{Fault, Slip};
-use crate::symbol::Symbol;
+use crate::symbol::{Symbol, UnknownSymbol};
 use std::alloc::Global;
 use trees::Node;
 
@@ -13,98 +13,93 @@ pub struct Reading {
     pub entries: Vec<Node>,
 }
 
+// A line of the text, without its comment.
+#[derive(Clone, Copy)]
+struct Source<'a> {
+    number: usize,
+    text: &'a str,
+}
+
+impl<'a> Source<'a> {
+    fn new(number: usize, line: &'a str) -> Source<'a> {
+        let text = line.split_once('#').map_or(line, |(before, _)| before);
+        Source { number, text }
+    }
+
+    fn fault(self, slip: Slip) -> Fault {
+        Fault::Line {
+            number: self.number,
+            slip,
+        }
+    }
+
+    // The numbers behind the first word.
+    fn children(self, heap: Global) -> Result<Vec<usize>, Fault> {
+        self.text
+            .split_whitespace()
+            .skip(1)
+            .map(|word| word.parse().map_err(|_| self.fault(Slip::Number)))
+            .try_collect(heap)
+    }
+
+    // The entry that the line gives, which begins with this word.
+    fn node(self, heap: Global, word: &str) -> Result<Node, Fault> {
+        let symbol = symbol_of(word).map_err(|_| self.fault(Slip::Symbol))?;
+        let children = self.children(heap)?;
+        let rank = symbol.rank();
+        let given = children.len();
+        entry(symbol, children.as_slice()).ok_or_else(|| self.fault(Slip::Children { rank, given }))
+    }
+
+    // The name of the reading that the line begins.
+    fn name(self, heap: Global) -> Result<String, Fault> {
+        let mut words = self.text.split_whitespace().skip(1);
+        match (words.next(), words.next()) {
+            (Some(name), None) => Ok(String::from_str(heap, name)?),
+            _ => Err(self.fault(Slip::Name)),
+        }
+    }
+}
+
 // The entry of a symbol over the entries with these numbers.
 fn entry(symbol: Symbol, children: &[usize]) -> Option<Node>
     ensures { Made symbol children.now result }
 {
-    if children.len() != symbol.rank() {
+    let rank = symbol.rank();
+    if children.len() != rank {
         return None;
     }
     let mut places = [0; 4];
-    for k in 0..children.len() {
-        places[k] = children[k];
-    }
+    places[..rank].copy_from_slice(children);
     Some(Node {
-        symbol: symbol.number(),
+        symbol: usize::from(symbol),
         children: places,
     })
 }
 
-// A line without its comment.
-fn content(line: &str) -> &str {
-    match line.split_once('#') {
-        Some((before, _)) => before,
-        None => line,
-    }
-}
-
 // The symbol that a word gives, by its name or its number.
-fn symbol_of(word: &str) -> Option<Symbol> {
+fn symbol_of(word: &str) -> Result<Symbol, UnknownSymbol> {
     match word.parse::<usize>() {
-        Ok(number) => Symbol::numbered(number),
-        Err(_) => Symbol::named(word),
-    }
-}
-
-// The numbers behind the first word of a line.
-fn children_of(heap: Global, number: usize, line: &str) -> Result<Vec<usize>, Fault> {
-    let mut children = Vec::new(heap);
-    for word in line.split_whitespace().skip(1) {
-        match word.parse::<usize>() {
-            Ok(child) => children.push(child)?,
-            Err(_) => return Err(Fault::at(number, Slip::Number)),
-        }
-    }
-    Ok(children)
-}
-
-// The entry that a line gives, which begins with this word.
-fn entry_of(heap: Global, number: usize, word: &str, line: &str) -> Result<Node, Fault> {
-    let Some(symbol) = symbol_of(word) else {
-        return Err(Fault::at(number, Slip::Symbol));
-    };
-    let children = children_of(heap, number, line)?;
-    match entry(symbol, children.as_slice()) {
-        Some(node) => Ok(node),
-        None => {
-            let rank = symbol.rank();
-            let given = children.len();
-            Err(Fault::at(number, Slip::Children { rank, given }))
-        }
-    }
-}
-
-// The name of the reading that a line begins.
-fn name_of(heap: Global, number: usize, line: &str) -> Result<String, Fault> {
-    let mut words = line.split_whitespace().skip(1);
-    match (words.next(), words.next()) {
-        (Some(name), None) => Ok(String::from_str(heap, name)?),
-        _ => Err(Fault::at(number, Slip::Name)),
+        Ok(number) => Symbol::try_from(number),
+        Err(_) => word.parse(),
     }
 }
 
 // Goes on by one line: nothing, a new reading, or an entry of the last reading.
-fn take_line(
-    heap: Global,
-    readings: &mut Vec<Reading>,
-    number: usize,
-    line: &str,
-) -> Result<(), Fault> {
-    let line = content(line);
-    let Some(word) = line.split_whitespace().next() else {
+fn take_line(heap: Global, readings: &mut Vec<Reading>, line: Source<'_>) -> Result<(), Fault> {
+    let Some(word) = line.text.split_whitespace().next() else {
         return Ok(());
     };
     if word == "reading" {
-        let name = name_of(heap, number, line)?;
         readings.push(Reading {
-            name,
+            name: line.name(heap)?,
             entries: Vec::new(heap),
         })?;
         return Ok(());
     }
-    let node = entry_of(heap, number, word, line)?;
+    let node = line.node(heap, word)?;
     let Some(last) = readings.last_mut() else {
-        return Err(Fault::at(number, Slip::Early));
+        return Err(line.fault(Slip::Early));
     };
     last.entries.push(node)?;
     Ok(())
@@ -113,10 +108,8 @@ fn take_line(
 // The readings of a text, in order.
 pub fn parse(heap: Global, text: &str) -> Result<Vec<Reading>, Fault> {
     let mut readings = Vec::new(heap);
-    let mut number = 0usize;
-    for line in text.lines() {
-        number = number.saturating_add(1);
-        take_line(heap, &mut readings, number, line)?;
+    for (number, line) in (1..).zip(text.lines()) {
+        take_line(heap, &mut readings, Source::new(number, line))?;
     }
     Ok(readings)
 }

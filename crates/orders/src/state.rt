@@ -1,5 +1,5 @@
 // The states of the table: what a part of a purchase order was read as.
-ghost use Rattle.std.specs.Prelude.{◌≡◌, map};
+ghost use Rattle.std.specs.Prelude.{◌≡◌};
 ghost use Rattle.orders.specs.Tables.{state_number};
 
 #[derive(Clone, Copy, PartialEq, Eq, Debug)]
@@ -17,17 +17,11 @@ pub enum State {
     Order,
 }
 
-impl State {
-    pub fn number(self) -> usize
-        ensures { result ≡ state_number self }
-    {
-        self as usize
-    }
-}
+// The number of a state in the table.
+impl From<State> for usize {
+    ghost from_gives = { λ state number. number ≡ state_number state };
 
-pub fn numbers(states: &[State; 4]) -> [usize; 4]
-    ensures { result ≡ map state_number states.now }
-{
-    let [a, b, c, d] = *states;
-    [a.number(), b.number(), c.number(), d.number()]
+    fn from(state: State) -> usize {
+        state as usize
+    }
 }

@@ -1,6 +1,9 @@
 // The symbols of a purchase order.
 ghost use Rattle.std.specs.Prelude.{◌≡◌, ◌≤◌};
+ghost use Rattle.std.specs.Result.{result_ok};
 ghost use Rattle.orders.specs.Symbols.{symbol_number, symbol_rank, order_ranks, Named, Numbered};
+
+use std::str::FromStr;
 
 #[derive(Clone, Copy, PartialEq, Eq, Debug)]
 pub enum Symbol {
@@ -23,6 +26,10 @@ pub enum Symbol {
     Order,
 }
 
+// A name or a number that no symbol has.
+#[derive(Clone, Copy, PartialEq, Eq, Debug)]
+pub struct UnknownSymbol;
+
 // The ranks of all symbols, in order.
 pub fn ranks() -> [usize; 12]
     ensures { result ≡ order_ranks }
@@ -31,12 +38,6 @@ pub fn ranks() -> [usize; 12]
 }
 
 impl Symbol {
-    pub fn number(self) -> usize
-        ensures { result ≡ symbol_number self }
-    {
-        self as usize
-    }
-
     pub fn rank(self) -> usize
         ensures value { result ≡ symbol_rank self }
         ensures small { result ≤ 4 }
@@ -49,44 +50,61 @@ impl Symbol {
             Symbol::Order => 4,
         }
     }
+}
 
-    pub fn named(word: &str) -> Option<Symbol>
-        ensures { Named word.now result }
-    {
-        match word {
-            "text" => Some(Symbol::Text),
-            "whole" => Some(Symbol::Whole),
-            "decimal" => Some(Symbol::Decimal),
-            "missing" => Some(Symbol::Missing),
-            "customer" => Some(Symbol::Customer),
-            "quantity" => Some(Symbol::Quantity),
-            "price" => Some(Symbol::Price),
-            "note" => Some(Symbol::Note),
-            "item" => Some(Symbol::Item),
-            "empty" => Some(Symbol::Empty),
-            "items" => Some(Symbol::Items),
-            "order" => Some(Symbol::Order),
-            _ => None,
+// The number of a symbol in the table.
+impl From<Symbol> for usize {
+    ghost from_gives = { λ symbol number. number ≡ symbol_number symbol };
+
+    fn from(symbol: Symbol) -> usize {
+        symbol as usize
+    }
+}
+
+impl TryFrom<usize> for Symbol {
+    type Error = UnknownSymbol;
+
+    ghost try_from_gives = { λ number res. Numbered number (result_ok res) };
+
+    fn try_from(number: usize) -> Result<Symbol, UnknownSymbol> {
+        match number {
+            0 => Ok(Symbol::Text),
+            1 => Ok(Symbol::Whole),
+            2 => Ok(Symbol::Decimal),
+            3 => Ok(Symbol::Missing),
+            4 => Ok(Symbol::Customer),
+            5 => Ok(Symbol::Quantity),
+            6 => Ok(Symbol::Price),
+            7 => Ok(Symbol::Note),
+            8 => Ok(Symbol::Item),
+            9 => Ok(Symbol::Empty),
+            10 => Ok(Symbol::Items),
+            11 => Ok(Symbol::Order),
+            _ => Err(UnknownSymbol),
         }
     }
+}
 
-    pub fn numbered(number: usize) -> Option<Symbol>
-        ensures { Numbered number result }
-    {
-        match number {
-            0 => Some(Symbol::Text),
-            1 => Some(Symbol::Whole),
-            2 => Some(Symbol::Decimal),
-            3 => Some(Symbol::Missing),
-            4 => Some(Symbol::Customer),
-            5 => Some(Symbol::Quantity),
-            6 => Some(Symbol::Price),
-            7 => Some(Symbol::Note),
-            8 => Some(Symbol::Item),
-            9 => Some(Symbol::Empty),
-            10 => Some(Symbol::Items),
-            11 => Some(Symbol::Order),
-            _ => None,
+impl FromStr for Symbol {
+    type Err = UnknownSymbol;
+
+    ghost from_str_gives = { λ word res. Named word (result_ok res) };
+
+    fn from_str(word: &str) -> Result<Symbol, UnknownSymbol> {
+        match word {
+            "text" => Ok(Symbol::Text),
+            "whole" => Ok(Symbol::Whole),
+            "decimal" => Ok(Symbol::Decimal),
+            "missing" => Ok(Symbol::Missing),
+            "customer" => Ok(Symbol::Customer),
+            "quantity" => Ok(Symbol::Quantity),
+            "price" => Ok(Symbol::Price),
+            "note" => Ok(Symbol::Note),
+            "item" => Ok(Symbol::Item),
+            "empty" => Ok(Symbol::Empty),
+            "items" => Ok(Symbol::Items),
+            "order" => Ok(Symbol::Order),
+            _ => Err(UnknownSymbol),
         }
     }
 }

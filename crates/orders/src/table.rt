@@ -7,12 +7,13 @@ ghost use Rattle.rules.specs.Books.{Opens, added};
 ghost use Rattle.rules.specs.Measures.{ranks as measure_ranks};
 ghost use Rattle.tables.specs.Images.{draft_holds, closed_holds, SameDraft, SameClosed};
 ghost use Rattle.orders.specs.Symbols.{order_ranks};
-ghost use Rattle.orders.specs.Tables.{line_rule, lines_added, order_table, SaysOrder};
+ghost use Rattle.orders.specs.Tables.{line_rule, lines_added, order_table, Judges};
 
 use crate::choice::Which;
-use crate::fault::Fault;
+use crate::fault::{Fault, Unweighed};
 use crate::line::Line;
-use crate::state::{State, numbers};
+use crate::reading::Reading;
+use crate::state::State;
 use crate::symbol::ranks;
 use kinds::{Cost, Kind};
 use rules::{Measure, Place, Rule, Weighing};
@@ -20,10 +21,18 @@ use std::alloc::Global;
 use tables::{Closed, Draft};
 use trees::{Node, Refusal};
 
+// A reading, and what the table says of it.
 #[derive(Clone, Copy)]
-pub struct Weighed {
-    pub first: Weighing<Cost>,
-    pub second: Weighing<Cost>,
+pub struct Weighed<'a> {
+    pub reading: &'a Reading,
+    pub weighing: Weighing<Cost>,
+}
+
+// What the table says of two readings, and by what a line that is added twice is refused.
+#[derive(Clone, Copy)]
+pub struct Verdict<'a> {
+    pub first: Weighed<'a>,
+    pub second: Weighed<'a>,
     pub refusal: Refusal,
 }
 
@@ -35,25 +44,29 @@ fn cost_of(code: i32) -> Cost
 }
 
 // Adds the rule of a line.
-pub fn add_line(draft: &mut Draft<'_, Cost>, line: &Line) -> Result<(), Refusal>
+fn add_line(heap: Global, draft: &mut Draft<'_, Cost>, line: &Line) -> Result<(), Fault>
     ensures { MatchResult result (λ _. draft_holds (λ v. v) draft.new ≡ added (draft_holds (λ v. v) draft.old) (line_rule line.now)) (λ _. SameDraft draft.old draft.new) }
 {
-    let rank = line.symbol.rank();
-    let children = numbers(&line.children);
+    let children: Vec<usize> = line
+        .children
+        .iter()
+        .map(|state| usize::from(*state))
+        .collect(heap)?;
     draft.add(
-        line.symbol.number(),
-        &children[0..rank],
-        line.target.number(),
+        line.symbol.into(),
+        children.as_slice(),
+        line.target.into(),
         cost_of(line.cost),
-    )
+    )?;
+    Ok(())
 }
 
 // Adds the rules of lines, in order, up to the first that is refused.
-fn add_lines(draft: &mut Draft<'_, Cost>, lines: &[Line]) -> Result<(), Refusal>
+fn add_lines(heap: Global, draft: &mut Draft<'_, Cost>, lines: &[Line]) -> Result<(), Fault>
     ensures { OnOk result (draft_holds (λ v. v) draft.new ≡ lines_added (draft_holds (λ v. v) draft.old) lines.now) }
 {
     for line in lines {
-        add_line(draft, line)?;
+        add_line(heap, draft, line)?;
     }
     Ok(())
 }
@@ -68,30 +81,28 @@ fn measured() -> Result<Measure, Refusal>
 }
 
 // Marks the accepting state, and adds the rules of the lines.
-fn fill(draft: &mut Draft<'_, Cost>, lines: &[Line]) -> Result<(), Fault>
+fn fill(heap: Global, draft: &mut Draft<'_, Cost>, lines: &[Line]) -> Result<(), Fault>
     requires { Opens order_ranks 11 (draft_holds (λ v. v) draft.old).places (draft_holds (λ v. v) draft.old) }
     ensures { OnOk result ((draft_holds (λ v. v) draft.new).content ≡ order_table lines.now) }
 {
-    draft.accept(State::Order.number())?;
-    add_lines(draft, lines)?;
-    Ok(())
+    draft.accept(State::Order.into())?;
+    add_lines(heap, draft, lines)
 }
 
 // Adds the first line once more, and answers by what that is refused.
-fn repeat(draft: &mut Draft<'_, Cost>, lines: &[Line]) -> Result<Refusal, Fault>
+fn repeat(heap: Global, draft: &mut Draft<'_, Cost>, lines: &[Line]) -> Result<Refusal, Fault>
     ensures { OnOk result (SameDraft draft.old draft.new) }
 {
-    let Some(line) = lines.first() else {
-        return Err(Fault::Repeated);
-    };
-    match add_line(draft, line) {
+    let line = lines.first().ok_or(Fault::Repeated)?;
+    match add_line(heap, draft, line) {
         Ok(()) => Err(Fault::Repeated),
-        Err(refusal) => Ok(refusal),
+        Err(Fault::Table(refusal)) => Ok(refusal),
+        Err(fault) => Err(fault),
     }
 }
 
 // What the table says of the tree of a list.
-fn weigh_one(
+fn weigh_list(
     heap: Global,
     table: &mut Closed<'_, Cost>,
     which: Which,
@@ -101,32 +112,37 @@ fn weigh_one(
     ensures same { SameClosed table.old table.new }
 {
     let mut work = vec![in heap; Place::blank(); list.len()]?;
-    match table.weigh(list, work.as_mut_slice()) {
-        Ok(weighing) => Ok(weighing),
-        Err(refusal) => Err(Fault::Reading(which, refusal)),
-    }
+    table
+        .weigh(list, work.as_mut_slice())
+        .map_err(|refusal| Fault::Reading(which, Unweighed(refusal)))
 }
 
 // What the table of the lines says of two readings, and by what a line that is added twice is refused.
-pub fn weigh_both(
+pub fn weigh_both<'a>(
     heap: Global,
     lines: &[Line],
-    first: &[Node],
-    second: &[Node],
-) -> Result<Weighed, Fault>
-    ensures { IfOk result (λ w. SaysOrder lines.now first.now w.first × SaysOrder lines.now second.now w.second) }
+    first: &'a Reading,
+    second: &'a Reading,
+) -> Result<Verdict<'a>, Fault>
+    ensures { IfOk result (λ v. Judges lines.now first.now v.first × Judges lines.now second.now v.second) }
 {
     let measure = measured()?;
     let mut memory = vec![in heap; Rule::blank(); lines.len()]?;
     let mut draft = Draft::open(&measure, memory.as_mut_slice());
-    fill(&mut draft, lines)?;
-    let refusal = repeat(&mut draft, lines)?;
+    fill(heap, &mut draft, lines)?;
+    let refusal = repeat(heap, &mut draft, lines)?;
     let mut table = draft.close();
-    let first = weigh_one(heap, &mut table, Which::First, first)?;
-    let second = weigh_one(heap, &mut table, Which::Second, second)?;
-    Ok(Weighed {
-        first,
-        second,
+    let one = weigh_list(heap, &mut table, Which::First, first.entries.as_slice())?;
+    let other = weigh_list(heap, &mut table, Which::Second, second.entries.as_slice())?;
+    Ok(Verdict {
+        first: Weighed {
+            reading: first,
+            weighing: one,
+        },
+        second: Weighed {
+            reading: second,
+            weighing: other,
+        },
         refusal,
     })
 }

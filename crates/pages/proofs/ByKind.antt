@@ -1,5 +1,6 @@
 -- The kind that a page names, and the answer by it.
-use Rattle.std.proofs.Common.{ℕ, List, drop, Ok, Err, Result, Vec}
+use Rattle.std.proofs.Common.{◌≡◌, ℕ, List, drop, Ok, Err, Result, Vec, sym, subst}
+use Rattle.kinds.specs.Weights.{Weights}
 use Rattle.kinds.specs.Marks.{marks}
 use Rattle.kinds.specs.Residues.{residues}
 use Rattle.kinds.specs.Costs.{costs}
@@ -9,27 +10,24 @@ use Rattle.pages.specs.declared.named.Named.{Named}
 use Rattle.pages.specs.declared.named.Named.TheVariants.{Marks, Residues, Costs}
 use Rattle.pages.specs.declared.trouble.Trouble.{Trouble}
 use Rattle.pages.specs.declared.trouble.Trouble.TheVariants.{Fault as refused, NoMemory}
-use Rattle.pages.specs.Pages.{by_marks, by_residues, by_costs, FitsPage, in_tables}
-use Rattle.pages.specs.Reading.{number_of, AnswersTables, AnswersNamed, AnswersPage}
+use Rattle.pages.specs.Pages.{ByKind, by_marks, by_residues, by_costs, FitsPage, in_tables}
+use Rattle.pages.specs.Reading.{number_of, AnswersTables, AnswersPage}
 
-module _ {Z : Type 0} (page : List ℕ) (c : Cursor) where
-  pub named_marks : (r : Result (Vec ℕ Z) Trouble) → AnswersTables marks page c r → AnswersNamed page Marks c r
-  named_marks (Ok out) a = by_marks a
-  named_marks (Err (refused f)) a = by_marks a
-  named_marks (Err NoMemory) a = tt
+module _ {Z : Type 0} (page : List ℕ) (c : Cursor) (named : Named) (r : Result (Vec ℕ Z) Trouble) where
+  -- what is answered by the kind that a page names is the answer to the page
+  named_page : {W : Type 0} (K : Weights W) → ((P : (V : Type 0) → Weights V → Type 0) → P W K → ByKind P (number_of named)) → FitsPage page → Begins page (kind (number_of named)) (drop c.at page) → AnswersTables K page c r → AnswersPage page r
+  named_page K by fits begins a = at r a
+    where
+      at : (s : Result (Vec ℕ Z) Trouble) → AnswersTables K page c s → AnswersPage page s
+      at (Ok out) x = (number_of named, drop c.at page, fits, begins, by _ x)
+      at (Err (refused f)) x = in_tables (number_of named) (drop c.at page) fits begins (by _ x)
+      at (Err NoMemory) x = tt
 
-  pub named_residues : (r : Result (Vec ℕ Z) Trouble) → AnswersTables residues page c r → AnswersNamed page Residues c r
-  named_residues (Ok out) a = by_residues a
-  named_residues (Err (refused f)) a = by_residues a
-  named_residues (Err NoMemory) a = tt
+  pub page_marks : named ≡ Marks → FitsPage page → Begins page (kind (number_of named)) (drop c.at page) → AnswersTables marks page c r → AnswersPage page r
+  page_marks is = named_page marks (λ P x. subst (λ k. ByKind P (number_of k)) (sym is) (by_marks x))
 
-  pub named_costs : (r : Result (Vec ℕ Z) Trouble) → AnswersTables costs page c r → AnswersNamed page Costs c r
-  named_costs (Ok out) a = by_costs a
-  named_costs (Err (refused f)) a = by_costs a
-  named_costs (Err NoMemory) a = tt
+  pub page_residues : named ≡ Residues → FitsPage page → Begins page (kind (number_of named)) (drop c.at page) → AnswersTables residues page c r → AnswersPage page r
+  page_residues is = named_page residues (λ P x. subst (λ k. ByKind P (number_of k)) (sym is) (by_residues x))
 
-  -- with the line of the kind before
-  pub named_page : (named : Named) (r : Result (Vec ℕ Z) Trouble) → FitsPage page → Begins page (kind (number_of named)) (drop c.at page) → AnswersNamed page named c r → AnswersPage page r
-  named_page named (Ok out) fits begins a = (number_of named, drop c.at page, fits, begins, a)
-  named_page named (Err (refused f)) fits begins a = in_tables (number_of named) (drop c.at page) fits begins a
-  named_page named (Err NoMemory) fits begins a = tt
+  pub page_costs : named ≡ Costs → FitsPage page → Begins page (kind (number_of named)) (drop c.at page) → AnswersTables costs page c r → AnswersPage page r
+  page_costs is = named_page costs (λ P x. subst (λ k. ByKind P (number_of k)) (sym is) (by_costs x))

@@ -4,7 +4,7 @@ use Rattle.kinds.specs.Weights.{Weights}
 use Rattle.kinds.specs.Reading.{Reads}
 use Rattle.kinds.specs.declared.refusal.KindRefusal.{KindRefusal}
 use Rattle.layout.specs.Fields.{field, Long}
-use Rattle.layout.proofs.Unique.{field_same}
+use Rattle.layout.proofs.Padding.{field_same}
 use Rattle.pages.specs.Reading.{ReadsWeight}
 
 -- a code that was read, and what the kind answers to it

@@ -1,27 +1,19 @@
 -- The first line of a table: its measure, or why it has none.
 use Rattle.std.proofs.Common.{◌≡◌, ℕ, List, drop, Ok, Err, Result, sym, refl, ◌∙◌, subst, ap₂, subst₂, inl, Bor}
-use Rattle.trees.specs.declared.refusal.Refusal.{Refusal}
 use Rattle.trees.specs.Refusals.{NoneMet}
 use Rattle.rules.specs.declared.measure.Measure.{Measure}
-use Rattle.rules.specs.Measures.{ranks, Measured}
+use Rattle.rules.specs.Measures.{ranks}
 use Rattle.layout.specs.declared.line.Line.{Line}
 use Rattle.layout.specs.declared.line.Line.TheVariants.{Table}
 use Rattle.layout.specs.Answers.{ReadsNumbers}
 use Rattle.layout.specs.Lines.{Entry, table, Fits, Says, says_kind, says_table, says_accept, says_rule, says_end}
-use Rattle.pages.specs.declared.at.At.{At}
 use Rattle.pages.specs.declared.cursor.Cursor.{Cursor}
 use Rattle.pages.specs.declared.fault.Fault.TheVariants.{Layout}
 use Rattle.pages.specs.declared.trouble.Trouble.{Trouble}
 use Rattle.pages.specs.declared.trouble.Trouble.TheVariants.{Fault as refused, NoMemory}
-use Rattle.pages.specs.Reading.{placed, Steps, Measures, RefusesFirst, MeasuresNext}
+use Rattle.pages.specs.Reading.{Steps, Measures, RefusesFirst, MeasuresNext}
 use Rattle.pages.specs.Texts.{measure_tests}
-use Rattle.pages.proofs.Calls.{placed_ok}
 use Rattle.pages.proofs.Said.{said_table}
-
-pub measure_done : (rs : List ℕ) (n line : ℕ) (m m' : Measure) (r : Result (Unit {0}) Refusal) (p : Result (Unit {0}) (At Refusal)) (u : Unit {0}) → Measured m rs n r m' → p ≡ placed line r → p ≡ Ok u → NoneMet (measure_tests rs n) × (ranks m' ≡ rs) × (m'.states ≡ n)
-measure_done rs n line m m' r p u a e is =
-    let done = subst (λ x. Measured m rs n x m') (placed_ok line r p u e is) a in
-    (done.0, done.1.0, done.1.1)
 
 -- a line that begins no table
 first_misplaced : (l : Line) (n : ℕ) (e : Entry) → ((k : ℕ) (part : Bor (List ℕ)) → l ≡ Table k part → ⊥) → Says l e → RefusesFirst e n (Layout n)

@@ -1,20 +1,11 @@
 -- The lines of an answer, piece by piece.
-use Rattle.std.proofs.Common.{◌≡◌, ℕ, suc, ◌+◌, ◌<◌, ◌≤◌, List, [], ◌∷◌, ◌++◌, length, get_or, take, IfOk, Ok, Err, Result, refl, ap, ◌∙◌, append_assoc, append-nil, arith}
+use Rattle.std.proofs.Common.{◌≡◌, ℕ, suc, ◌+◌, ◌<◌, ◌≤◌, List, [], ◌∷◌, ◌++◌, length, get_or, take, IfOk, Ok, Err, Result, ap, ◌∙◌, append_assoc, append-nil, arith}
 use Rattle.std.proofs.lemmas.List.{take_more, take_all, length-take}
 use Rattle.automata.specs.Trees.{rank}
 use Rattle.trees.specs.declared.node.Node.{Node}
 use Rattle.trees.specs.Lists.{blank, children_of}
 use Rattle.layout.specs.Answers.{number_line}
 use Rattle.pages.specs.Answering.{node_lines}
-
--- four elements
-pub four_places : (xs : List ℕ) → length xs ≡ 4 → get_or xs 0 0 ∷ get_or xs 1 0 ∷ get_or xs 2 0 ∷ get_or xs 3 0 ∷ [] ≡ xs
-four_places [] e = absurd (omega arith)
-four_places (a ∷ []) e = absurd (omega arith)
-four_places (a ∷ b ∷ []) e = absurd (omega arith)
-four_places (a ∷ b ∷ c ∷ []) e = absurd (omega arith)
-four_places (a ∷ b ∷ c ∷ d ∷ []) e = refl
-four_places (a ∷ b ∷ c ∷ d ∷ x ∷ xs) e = absurd (omega arith)
 
 -- the first of an entry's numbers, as many as its rank and two, make its line
 pub node_written : {T E : Type 0} (r : Result T E) (start after : List ℕ) (ranks : List ℕ) (n : Node) (number m k : ℕ) (xs : List ℕ) → xs ≡ number ∷ n.symbol ∷ n.children → k ≡ rank ranks n.symbol → m ≡ 2 + k → IfOk r (λ _. after ≡ start ++ number_line 78 (take m xs)) → IfOk r (λ _. after ≡ start ++ number_line 78 (number ∷ n.symbol ∷ children_of ranks n))
@@ -46,7 +37,3 @@ nodes_written start out more ranks ns i n less element so_far is =
 
 pub all_written : (start out : List ℕ) (ranks : List ℕ) (ns : List Node) (i : ℕ) → length ns ≤ i → out ≡ start ++ node_lines ranks 0 (take i ns) → out ≡ start ++ node_lines ranks 0 ns
 all_written start out ranks ns i most is = is ∙ ap (λ xs. start ++ node_lines ranks 0 xs) (take_all i ns most)
-
--- four parts of an answer
-pub parts_written : (a b c d e p q r s : List ℕ) → a ≡ [] → b ≡ a ++ p → c ≡ b ++ q → d ≡ c ++ r → e ≡ d ++ s → e ≡ p ++ q ++ r ++ s
-parts_written a b c d e p q r s none one two three four = four ∙ ap (λ x. x ++ s) (three ∙ ap (λ x. x ++ r) (two ∙ ap (λ x. x ++ q) (one ∙ ap (λ x. x ++ p) none)))

@@ -9,7 +9,8 @@ use Rattle.trees.specs.Alphabets.{BadRanks}
 use Rattle.trees.proofs.Refusals.{first_is_met}
 use Rattle.rules.specs.Books.{Book, accept_checks, add_checks, added}
 use Rattle.layout.specs.Lines.{Entry, kind, table, accept, rule, end, written, Fits, Begins}
-use Rattle.layout.proofs.Unique.{field_same, begins_once}
+use Rattle.layout.proofs.Padding.{field_same}
+use Rattle.layout.proofs.Unique.{begins_once}
 use Rattle.pages.specs.declared.fault.Fault.{Fault}
 use Rattle.pages.specs.declared.fault.Fault.TheVariants.{Table}
 use Rattle.pages.specs.Texts.{lines, measure_tests, SpellsWeight, Enters, Refuses}

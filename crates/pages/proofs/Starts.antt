@@ -1,6 +1,5 @@
 -- The length and the first line of a page.
-use Rattle.std.proofs.Common.{◌≡◌, ℕ, ◌<◌, ◌≤◌, List, length, drop, Ok, Err, sym, refl, ap, ◌∙◌, subst, arith, length-drop}
-use Rattle.std.proofs.lemmas.List.{drop_all}
+use Rattle.std.proofs.Common.{◌≡◌, ℕ, ◌<◌, List, length, drop, Ok, Err, sym, refl, ap, ◌∙◌, subst, arith, length-drop}
 use Rattle.layout.specs.declared.line.Line.{Line}
 use Rattle.layout.specs.declared.line.Line.TheVariants.{Kind}
 use Rattle.layout.specs.Lines.{Entry, kind, Begins, Says, says_kind, says_table, says_accept, says_rule, says_end}
@@ -10,9 +9,6 @@ use Rattle.pages.specs.declared.fault.Fault.TheVariants.{Layout}
 use Rattle.pages.specs.declared.named.Named.{Named}
 use Rattle.pages.specs.Pages.{Known, FitsPage, FirstFault, no_kind}
 use Rattle.pages.specs.Reading.{Steps, ReadsEnd, number_of, ReadsKind}
-
-pub end_none : (page : List ℕ) (c : Cursor) → length page ≤ c.at → ReadsEnd page c (Ok tt)
-end_none page c h = drop_all c.at page h
 
 pub end_some : (page : List ℕ) (c : Cursor) → c.at < length page → ReadsEnd page c (Err (Layout c.line))
 end_some page c h = (refl, λ e. let none : length (drop c.at page) ≡ 0 = ap length e in omega (arith, length-drop c.at page))

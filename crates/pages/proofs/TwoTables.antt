@@ -16,6 +16,16 @@ use Rattle.pages.specs.Reading.{FillsRest, MeasuresNext, ReadsEnd, Fails, Answer
 use Rattle.pages.specs.Judging.{ByHistories, Judges}
 use Rattle.pages.proofs.Tabled.{Tabled, measure_stops, fill_stops, table_read}
 
+-- what is read of a cursor's page is read of the same page
+pub measures_on : (p page : List ℕ) (c c' : Cursor) (r : Result Measure Trouble) → p ≡ page → MeasuresNext p c c' r → MeasuresNext page c c' r
+measures_on p page c c' r same x = subst (λ q. MeasuresNext q c c' r) same x
+
+pub fills_on : {W : Type 0} (K : Weights W) (p page : List ℕ) (c c' : Cursor) (b b' : Book W) (r : Result (Unit {0}) Trouble) → p ≡ page → FillsRest K p c c' b b' r → FillsRest K page c c' b b' r
+fills_on K p page c c' b b' r same x = subst (λ q. FillsRest K q c c' b b' r) same x
+
+pub ends_on : (p page : List ℕ) (c : Cursor) (r : Result (Unit {0}) Fault) → p ≡ page → ReadsEnd p c r → ReadsEnd page c r
+ends_on p page c r same x = subst (λ q. ReadsEnd q c r) same x
+
 module _ {W : Type 0} (K : Weights W) (page : List ℕ) where
   -- a table is opened in so many places
   opened_in : (m : Measure) (b : Book W) (places : ℕ) → places ≡ rule_places → Opens (ranks m) m.states places b → Opens (ranks m) m.states rule_places b

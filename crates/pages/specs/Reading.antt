@@ -1,5 +1,5 @@
 -- What the parts of a page are read as.
-use Rattle.std.specs.Prelude.{◌≡◌, ℕ, ◌+◌, ◌<◌, ◌≤◌, ◌⊎◌, List, [], length, drop, Some, None, Ok, Err, vec_items, Option, Result, Vec, ◌≢◌}
+use Rattle.std.specs.Prelude.{◌≡◌, ℕ, ◌+◌, ◌<◌, ◌≤◌, ◌⊎◌, List, [], length, drop, Some, Ok, Err, vec_items, Result, Vec, ◌≢◌}
 use Rattle.kinds.specs.Weights.{Weights}
 use Rattle.kinds.specs.declared.refusal.KindRefusal.{KindRefusal}
 use Rattle.kinds.specs.declared.refusal.KindRefusal.TheVariants.{NoWeight}
@@ -94,9 +94,9 @@ number_of Residues = 2
 number_of Costs = 3
 
 -- the kind with a number
-abbrev pub Names : ℕ → Option Named → Type 0
-Names n (Some k) = number_of k ≡ n
-Names n None = Known n → ⊥
+abbrev pub Names : {E : Type 0} → ℕ → Result Named E → Type 0
+Names n (Ok k) = number_of k ≡ n
+Names n (Err e) = Known n → ⊥
 
 -- the kind that the page names and the rest of the page, or its first fault
 abbrev pub ReadsKind : List ℕ → Result (Named × Cursor) Fault → Type 0
@@ -112,12 +112,6 @@ Fails K bytes NoMemory = Unit {0}
 abbrev pub AnswersTables : {W Z : Type 0} → Weights W → List ℕ → Cursor → Result (Vec ℕ Z) Trouble → Type 0
 AnswersTables K page c (Ok out) = Judged (vec_items out) K (drop c.at page)
 AnswersTables K page c (Err x) = Fails K (drop c.at page) x
-
--- the same of the kind that the page names
-abbrev pub AnswersNamed : {Z : Type 0} → List ℕ → Named → Cursor → Result (Vec ℕ Z) Trouble → Type 0
-AnswersNamed page named c (Ok out) = ByKind (λ W K. Judged (vec_items out) K (drop c.at page)) (number_of named)
-AnswersNamed page named c (Err (refused f)) = ByKind (λ W K. Faulty K (drop c.at page) f) (number_of named)
-AnswersNamed page named c (Err NoMemory) = Unit {0}
 
 -- the verdict on the tables of a page, or its first fault
 abbrev pub AnswersPage : {Z : Type 0} → List ℕ → Result (Vec ℕ Z) Trouble → Type 0

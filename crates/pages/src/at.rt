@@ -12,8 +12,5 @@ pub struct At<E> {
 pub fn at_line<T, E>(line: usize, res: Result<T, E>) -> Result<T, At<E>>
     ensures { result ≡ placed line res }
 {
-    match res {
-        Ok(value) => Ok(value),
-        Err(error) => Err(At { line, error }),
-    }
+    res.map_err(|error| At { line, error })
 }

@@ -1,5 +1,5 @@
 // The answer to two tables.
-ghost use Rattle.std.specs.Prelude.{◌≡◌, ◌≤◌, length, IfOk};
+ghost use Rattle.std.specs.Prelude.{◌≡◌, ◌≤◌, length};
 ghost use Rattle.std.specs.Option.{option_map};
 ghost use Rattle.trees.specs.Lists.{IsTreeList};
 ghost use Rattle.rules.specs.Weighing.{weight_said};
@@ -9,16 +9,15 @@ ghost use Rattle.pages.specs.Judging.{ByHistory, ByHistories, Faultless, Codes, 
 
 use crate::at::at_line;
 use crate::trouble::Trouble;
-use crate::writing::{write_different, write_same};
+use crate::work::Work;
+use crate::work::calls::PLACES;
+use crate::writing::{Told, write_different, write_same};
 use comparison::Comparison;
 use kinds::Kind;
-use rules::{Place, Weighing};
-use std::alloc::{AllocError, Global};
+use rules::Weighing;
+use std::alloc::Global;
 use tables::Closed;
 use trees::Node;
-
-// The places that a comparison of two tables can need: each has at most 48 states.
-const PLACES: usize = 4802;
 
 // The code of the weight that is said, if one is.
 fn code_of<W: Kind>(weighing: Weighing<W>) -> Option<i64>
@@ -34,22 +33,21 @@ fn code_of<W: Kind>(weighing: Weighing<W>) -> Option<i64>
 fn weigh_code<W: Kind>(
     table: &mut Closed<'_, W>,
     list: &[Node],
-    work: &mut [Place<W>],
+    work: &mut Work<W>,
 ) -> Result<Option<i64>, Trouble>
-    requires { length list.now ≤ length work.old }
+    requires { length list.now ≤ PLACES }
     ensures answer { ByHistory W.Kind.weights (closed_holds W.Kind.stands table.old) (λ b. IsTreeList b.content.ranks list.now → Faultless (Codes W.Kind.weights b list.now) result) }
     ensures same { SameClosed table.old table.new }
 {
-    let weighing = at_line(0, table.weigh(list, work))?;
+    let weighing = at_line(0, table.weigh(list, &mut work.places))?;
     Ok(code_of(weighing))
 }
 
 // Reduces a table. Answers its number of states.
-fn reduce_table<W: Kind>(table: &mut Closed<'_, W>, work: &mut [Place<W>]) -> Result<usize, Trouble>
-    requires { 48 ≤ length work.old }
+fn reduce_table<W: Kind>(table: &mut Closed<'_, W>, work: &mut Work<W>) -> Result<usize, Trouble>
     ensures { ByHistory W.Kind.weights (closed_holds W.Kind.stands table.old) (λ b. Faultless (Least W.Kind.weights b) result) }
 {
-    let (_, states) = at_line(0, table.reduce(work))?;
+    let (_, states) = at_line(0, table.reduce(&mut work.places))?;
     Ok(states)
 }
 
@@ -58,9 +56,8 @@ fn tell_same<W: Kind>(
     heap: Global,
     first: &mut Closed<'_, W>,
     second: &mut Closed<'_, W>,
-    work: &mut [Place<W>],
+    work: &mut Work<W>,
 ) -> Result<Vec<u8>, Trouble>
-    requires { 48 ≤ length work.old }
     ensures { TellsSame W.Kind.weights (closed_holds W.Kind.stands first.old) (closed_holds W.Kind.stands second.old) result }
 {
     let first_states = reduce_table(first, work)?;
@@ -74,10 +71,9 @@ fn tell_different<W: Kind>(
     first: &mut Closed<'_, W>,
     second: &mut Closed<'_, W>,
     list: &[Node],
-    work: &mut [Place<W>],
+    work: &mut Work<W>,
 ) -> Result<Vec<u8>, Trouble>
-    requires places { 48 ≤ length work.old }
-    requires entries { length list.now ≤ length work.old }
+    requires { length list.now ≤ PLACES }
     ensures { TellsDifferent W.Kind.weights (closed_holds W.Kind.stands first.old) (closed_holds W.Kind.stands second.old) list.now result }
 {
     let alphabet = first.alphabet();
@@ -85,26 +81,15 @@ fn tell_different<W: Kind>(
     let second_code = weigh_code(second, list, work)?;
     let first_states = reduce_table(first, work)?;
     let second_states = reduce_table(second, work)?;
-    Ok(write_different(
-        heap,
-        &alphabet,
-        first_states,
-        second_states,
-        list,
-        first_code,
-        second_code,
-    )?)
-}
-
-// A work list that is long enough to compare any two tables.
-fn work_list<W: Kind>(heap: Global) -> Result<Vec<Place<W>>, AllocError>
-    ensures { IfOk result (λ v. length v.items ≡ 4802) }
-{
-    let mut work = Vec::new(heap);
-    for _ in 0..PLACES {
-        work.push(Place::blank())?;
-    }
-    Ok(work)
+    let first = Told {
+        states: first_states,
+        code: first_code,
+    };
+    let second = Told {
+        states: second_states,
+        code: second_code,
+    };
+    Ok(write_different(heap, &alphabet, list, first, second)?)
 }
 
 // The answer to two tables: their least numbers of states, and whether every tree weighs alike in both, or a tree that does not.
@@ -119,8 +104,8 @@ pub fn judge<W: Kind>(
         symbol: 0,
         children: [0; 4]
     }; PLACES]?;
-    let mut work = work_list(heap)?;
-    match at_line(0, first.compare(second, &mut list, &mut work))? {
+    let mut work = Work::new(heap)?;
+    match at_line(0, first.compare(second, &mut list, &mut work.places))? {
         Comparison::Same => tell_same(heap, first, second, &mut work),
         Comparison::Different { entries } => {
             list.truncate(entries);

@@ -15,6 +15,7 @@ mod starting;
 mod table_pair;
 mod trouble;
 mod weights;
+mod work;
 mod writing;
 
 pub use answering::answer;

@@ -1,4 +1,5 @@
 // The first line of a table.
+ghost use Rattle.std.specs.Prelude.{◌≡◌};
 ghost use Rattle.pages.specs.Reading.{Measures, MeasuresNext};
 
 use crate::at::at_line;
@@ -18,11 +19,12 @@ fn measured(line: usize, ranks: &[usize], states: usize) -> Result<Measure, Trou
 }
 
 // The alphabet and the number of states of the table that begins in the next line.
-pub fn read_measure(heap: Global, page: &[u8], cursor: &mut Cursor) -> Result<Measure, Trouble>
-    ensures { MeasuresNext page.now cursor.old cursor.new result }
+pub fn read_measure(heap: Global, cursor: &mut Cursor) -> Result<Measure, Trouble>
+    ensures read { MeasuresNext cursor.old.page.now cursor.old cursor.new result }
+    ensures page { cursor.new.page.now ≡ cursor.old.page.now }
 {
     let line = cursor.line();
-    let Line::Table { states, ranks } = cursor.next_line(page)? else {
+    let Line::Table { states, ranks } = cursor.next_line()? else {
         return Err(Trouble::Fault(Fault::Layout { line }));
     };
     let ranks = read_numbers(heap, ranks)?;

@@ -3,26 +3,29 @@ ghost use Rattle.pages.specs.Reading.{Names};
 
 use kinds::{Cost, Kind, Marks, Residue};
 
-#[derive(Clone, Copy)]
+#[derive(Clone, Copy, PartialEq, Eq, Debug)]
 pub enum Named {
     Marks,
     Residues,
     Costs,
 }
 
-impl Named {
+// No kind has the number.
+#[derive(Clone, Copy, PartialEq, Eq, Debug)]
+pub struct UnknownKind;
+
+impl TryFrom<usize> for Named {
+    type Error = UnknownKind;
+
+    ghost try_from_gives = { Names };
+
     // The kind with this number.
-    pub fn of_number(number: usize) -> Option<Named>
-        ensures { Names number result }
-    {
-        if number == usize::from(Marks::NUMBER) {
-            Some(Named::Marks)
-        } else if number == usize::from(Residue::NUMBER) {
-            Some(Named::Residues)
-        } else if number == usize::from(Cost::NUMBER) {
-            Some(Named::Costs)
-        } else {
-            None
+    fn try_from(number: usize) -> Result<Named, UnknownKind> {
+        match u8::try_from(number) {
+            Ok(Marks::NUMBER) => Ok(Named::Marks),
+            Ok(Residue::NUMBER) => Ok(Named::Residues),
+            Ok(Cost::NUMBER) => Ok(Named::Costs),
+            _ => Err(UnknownKind),
         }
     }
 }

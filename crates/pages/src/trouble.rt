@@ -9,7 +9,7 @@ use kinds::KindRefusal;
 use std::alloc::AllocError;
 use trees::Refusal;
 
-#[derive(Clone, Copy)]
+#[derive(Clone, Copy, PartialEq, Eq, Debug)]
 pub enum Trouble {
     Fault(Fault),
     NoMemory,
@@ -27,7 +27,10 @@ impl From<At<KindRefusal>> for Trouble {
     ghost from_gives = { λ at r. r ≡ refused (Kind at.line at.error) };
 
     fn from(at: At<KindRefusal>) -> Trouble {
-        let (line, refusal) = (at.line, at.error);
+        let At {
+            line,
+            error: refusal,
+        } = at;
         Trouble::Fault(Fault::Kind { line, refusal })
     }
 }
@@ -36,7 +39,10 @@ impl From<At<Refusal>> for Trouble {
     ghost from_gives = { λ at r. r ≡ refused (Table at.line at.error) };
 
     fn from(at: At<Refusal>) -> Trouble {
-        let (line, refusal) = (at.line, at.error);
+        let At {
+            line,
+            error: refusal,
+        } = at;
         Trouble::Fault(Fault::Table { line, refusal })
     }
 }

@@ -1,6 +1,5 @@
 // Writing the lines of an answer.
 ghost use Rattle.std.specs.Prelude.{◌≡◌, ◌≤◌, [], ◌∷◌, ◌++◌, length, IfOk, OnOk};
-ghost use Rattle.std.specs.Option.{unwrap_or};
 ghost use Rattle.automata.specs.Trees.{rank};
 ghost use Rattle.trees.specs.Alphabets.{ranks_of};
 ghost use Rattle.trees.specs.Lists.{children_of};
@@ -11,19 +10,12 @@ use layout::{write_line, write_weight};
 use std::alloc::{AllocError, Global};
 use trees::{Alphabet, Node};
 
-// What an option holds, and 0 if it holds nothing.
-fn or_zero(rank: Option<usize>) -> usize
-    ensures { result ≡ unwrap_or rank 0 }
-{
-    rank.unwrap_or(0)
-}
-
 // The rank of a symbol, and 0 for one that is not of the alphabet.
 fn rank_of(alphabet: &Alphabet, symbol: usize) -> usize
     ensures value { result ≡ rank (ranks_of alphabet.now) symbol }
     ensures small { result ≤ 4 }
 {
-    or_zero(alphabet.rank(symbol))
+    alphabet.rank(symbol).unwrap_or(0)
 }
 
 // The numbers of an entry: its own, its symbol, and its four places.
@@ -66,22 +58,31 @@ pub fn write_same(heap: Global, first: usize, second: usize) -> Result<Vec<u8>, 
     Ok(out)
 }
 
+// What is told of a table: its least number of states, and the code of what a tree weighs in it.
+#[derive(Clone, Copy)]
+pub struct Told {
+    pub states: usize,
+    pub code: Option<i64>,
+}
+
 // The answer to two tables that a tree list tells apart: their numbers of states, the entries, and the codes of the tree's weights.
 pub fn write_different(
     heap: Global,
     alphabet: &Alphabet,
-    first: usize,
-    second: usize,
     list: &[Node],
-    first_code: Option<i64>,
-    second_code: Option<i64>,
+    first: Told,
+    second: Told,
 ) -> Result<Vec<u8>, AllocError>
-    ensures { IfOk result (λ v. v.items ≡ verdict_line 1 first second (length list.now) ++ node_lines (ranks_of alphabet.now) 0 list.now ++ weight_line 1 first_code ++ weight_line 2 second_code) }
+    ensures { IfOk result (λ v. v.items ≡ verdict_line 1 first.states second.states (length list.now) ++ node_lines (ranks_of alphabet.now) 0 list.now ++ weight_line 1 first.code ++ weight_line 2 second.code) }
 {
     let mut out = Vec::new(heap);
-    write_line(&mut out, b'V', &[1, first, second, list.len()])?;
+    write_line(
+        &mut out,
+        b'V',
+        &[1, first.states, second.states, list.len()],
+    )?;
     write_nodes(&mut out, alphabet, list)?;
-    write_weight(&mut out, 1, first_code)?;
-    write_weight(&mut out, 2, second_code)?;
+    write_weight(&mut out, 1, first.code)?;
+    write_weight(&mut out, 2, second.code)?;
     Ok(out)
 }

@@ -1,8 +1,6 @@
 //! Tables with a cell for each pair of states.
 #![tactic(auto)]
 
-mod pair_flags;
-mod pair_numbers;
+mod pair_table;
 
-pub use pair_flags::PairFlags;
-pub use pair_numbers::PairNumbers;
+pub use pair_table::PairTable;

@@ -1,5 +1,5 @@
 -- The one place in which two left sides differ, and the rules that face each other there.
-use Rattle.std.proofs.Common.{◌≡◌, ℕ, ◌<◌, ◌≤◌, Bool, true, false, ◌⊎◌, List, length, get_or, take, Some, None, sym, ap, ◌∙◌, ⊎_elim, arith}
+use Rattle.std.proofs.Common.{◌≡◌, ℕ, ◌<◌, ◌≤◌, Bool, true, false, List, length, get_or, take, Some, None, Option, sym, ap, ◌∙◌, ⊎_elim, arith}
 use Rattle.std.proofs.lemmas.List.{length-take-le, get_or-take}
 use Rattle.std.proofs.lemmas.Bool.{both_ways, cases_eq}
 use Rattle.automata.specs.Trees.{rank}
@@ -11,11 +11,10 @@ module _ (n : ℕ) (xs ys : List ℕ) where
   abbrev Same : ℕ → Type 0
   Same j = get_or xs j 0 ≡ get_or ys j 0
 
-  -- among the first k places the lists do not differ, and place is n, or they differ in one
-  abbrev pub Differing : ℕ → ℕ → Type 0
-  Differing place k =
-      ((place ≡ n) × ((j : ℕ) → j < k → Same j))
-      ⊎ ((place < k) × (place < n) × (Same place → ⊥) × ((j : ℕ) → j < k → (j ≡ place → ⊥) → Same j))
+  -- among the first k places the lists do not differ, or they differ in one
+  abbrev pub Differing : Option ℕ → ℕ → Type 0
+  Differing None k = (j : ℕ) → j < k → Same j
+  Differing (Some place) k = (place < k) × (place < n) × (Same place → ⊥) × ((j : ℕ) → j < k → (j ≡ place → ⊥) → Same j)
 
 -- two rules with one symbol of rank n, which was read as s
 module _ {V W : Type 0} (stands : V → W) (ranks : List ℕ) (live : ℕ → Bool) (r r' : Rule V) where

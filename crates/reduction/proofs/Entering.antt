@@ -1,9 +1,14 @@
 -- Classes that one live state after another enters, up to the whole numbering.
-use Rattle.std.proofs.Common.{◌≡◌, ℕ, ◌+◌, ◌<◌, ◌≤◌, Bool, true, false, List, length, get_or, set, is_some, Some, None, Option, unwrap_or, sym, refl, ap, ◌∙◌, subst, inl, inr, arith, length-set}
+use Rattle.std.proofs.Common.{◌≡◌, ℕ, ◌+◌, ◌<◌, ◌≤◌, Bool, true, false, not, ◌&&◌, List, length, get_or, set, is_some, Some, None, Option, unwrap_or, sym, refl, ap, ◌∙◌, subst, inl, inr, ⊎_elim, arith, length-set}
 use Rattle.std.proofs.lemmas.List.{get_or-set_other}
-use Rattle.std.proofs.lemmas.Bool.{both_ways}
-use Rattle.reduction.specs.Numbering.{UnmarkedAlike, Entered}
+use Rattle.std.proofs.lemmas.Bool.{both_ways, and_cases, and_parts, not-true, not-false}
+use Rattle.std.specs.Option.{MatchOption}
+use Rattle.reduction.specs.Numbering.{UnmarkedAlike, Earlier, Entered}
 use Rattle.reduction.proofs.Numbers.{class_of, Numbering, numbering_none, numbering_skip, numbering_join, numbering_open}
+
+pub found_earlier : (live : ℕ → Bool) (marks : ℕ → ℕ → Bool) (q : ℕ) (o : Option ℕ) → MatchOption o ((k : ℕ) → 0 ≤ k → k < q → (live k && not (marks k q)) ≡ false) (λ i. (0 ≤ i) × (i < q) × ((live i && not (marks i q)) ≡ true) × ((k : ℕ) → 0 ≤ k → k < i → (live k && not (marks k q)) ≡ false)) → Earlier live marks q o
+found_earlier live marks q None n = λ p l h. ⊎_elim (λ e. let z : ◌≡◌ {A = ℕ} 0 1 = cc in absurd (omega arith)) (not-false (marks p q)) (and_cases (live p) (not (marks p q)) (n p (omega arith) l))
+found_earlier live marks q (Some p) f = let both = and_parts (live p) (not (marks p q)) f.2 in (f.1, both.0, not-true (marks p q) both.1)
 
 some_value : (o : Option ℕ) → is_some o ≡ true → o ≡ Some (unwrap_or o 0)
 some_value None e = let z : ◌≡◌ {A = ℕ} 0 1 = cc in absurd (omega arith)

@@ -13,8 +13,8 @@ use Rattle.automata.specs.Marking.{Swapped, Lone, MarksFirst, acceptance, lone, 
 use Rattle.automata.proofs.Finds.{find_symbol, find_children, find_all}
 use Rattle.automata.proofs.Marks.{not_marked}
 use Rattle.liveness.proofs.Reaches.{find_itself}
-use Rattle.pairs.specs.declared.pair_flags.PairFlags.{PairFlags}
-use Rattle.pairs.specs.Cells.{flag_at}
+use Rattle.pairs.specs.declared.pair_table.PairTable.{PairTable}
+use Rattle.pairs.specs.Cells.{cell_at}
 use Rattle.reduction.specs.Rounds.{Round, round_one, round_two, AcceptApart, live_target, OnlyPlace, Facing, Uneven, Tells, Truth, Good, ComparedAll, LoneAll}
 use Rattle.reduction.proofs.Telling.{unmarked_itself}
 
@@ -101,7 +101,7 @@ module _ {W : Type 0} (A : Automaton W) (live : ℕ → Bool) where
   no_live_target (Some r) n = not_marked (live r.target) (n r refl)
 
   module _ (K : Weights W) where
-    pub lone_marked : (t : PairFlags) → LoneAll K A live t → (p q : ℕ) → Lone A live p q → flag_at t p q ≡ true
+    pub lone_marked : (t : PairTable Bool) → LoneAll K A live t → (p q : ℕ) → Lone A live p q → cell_at t p q ≡ true
     lone_marked t noted p q h =
         let r = h.rule in
         let k = length h.before in
@@ -113,7 +113,7 @@ module _ {W : Type 0} (A : Automaton W) (live : ℕ → Bool) where
         ap (λ s. live_target live (find A.rules s (set r.children k q))) (find_symbol A.rules h.symbol qs r h.first)
         ∙ ap (λ l. live_target live (find A.rules h.symbol l)) swap
         ∙ no_live_target (find A.rules h.symbol (h.before ++ q ∷ h.after)) h.alone in
-        ap (λ x. flag_at t x q) (sym this)
+        ap (λ x. cell_at t x q) (sym this)
         ∙ noted r (found_has h.symbol qs r h.first) k q h.first_live (omega (arith, ap length e, length-append h.before (p ∷ h.after))) h.other_live none
 
     not_told : Sound A → (ρ : Round W) (marks : ℕ → ℕ → Bool) → Truth K A live ρ marks → (r : Transition W) → Tells K ρ marks r r → ⊥
@@ -122,19 +122,19 @@ module _ {W : Type 0} (A : Automaton W) (live : ℕ → Bool) where
     not_told sound (round_two f) marks truth r (inl m) = unmarked_itself K A live sound (round_two f) marks truth r.target m
     not_told sound (round_two f) marks truth r (inr n) = n refl
 
-    module _ (sound : Sound A) (ρ : Round W) (t : PairFlags) (good : Good K A live ρ (flag_at t)) where
+    module _ (sound : Sound A) (ρ : Round W) (t : PairTable Bool) (good : Good K A live ρ (cell_at t)) where
       -- two rules that tell p from q
-      told_marked : ComparedAll K A live ρ t → (p q : ℕ) (r r' : Transition W) → Swapped A live p q r r' → Tells K ρ (flag_at t) r r' → flag_at t p q ≡ true
+      told_marked : ComparedAll K A live ρ t → (p q : ℕ) (r r' : Transition W) → Swapped A live p q r r' → Tells K ρ (cell_at t) r r' → cell_at t p q ≡ true
       told_marked compared p q r r' s tells = ⊎_elim equal apart (cases_eq p q)
         where
-          equal : p ≡ q → flag_at t p q ≡ true
+          equal : p ≡ q → cell_at t p q ≡ true
           equal e =
               let x = s.first in
               let y = s.second in
               let same : r ≡ r' = cc in
-              absurd (not_told sound ρ (flag_at t) good.truth r (rw (← same) at tells))
+              absurd (not_told sound ρ (cell_at t) good.truth r (rw (← same) at tells))
 
-          apart : (p ≡ q → ⊥) → flag_at t p q ≡ true
+          apart : (p ≡ q → ⊥) → cell_at t p q ≡ true
           apart n =
               let g = swapped_placed p q r r' s in
               let this = g.this in
@@ -143,12 +143,12 @@ module _ {W : Type 0} (A : Automaton W) (live : ℕ → Bool) where
               rw (this, other) at m
 
       -- what acceptance and rules without counterpart tell apart is marked
-      module _ (accept : (p q : ℕ) → AcceptApart A.accepting live p q → flag_at t p q ≡ true) (alone : (p q : ℕ) → live p ≡ true → Lone A live p q → flag_at t p q ≡ true) (compared : ComparedAll K A live ρ t) where
-        pub rest_first : AtRest live (flag_at t) (MarksFirst A live (flag_at t))
+      module _ (accept : (p q : ℕ) → AcceptApart A.accepting live p q → cell_at t p q ≡ true) (alone : (p q : ℕ) → live p ≡ true → Lone A live p q → cell_at t p q ≡ true) (compared : ComparedAll K A live ρ t) where
+        pub rest_first : AtRest live (cell_at t) (MarksFirst A live (cell_at t))
         rest_first p q l m (acceptance n) = accept p q (record { this_live = l; other_live = m; apart = n })
         rest_first p q l m (lone h) = alone p q l h
         rest_first p q l m (targets r r' s e) = told_marked compared p q r r' s (inl e)
 
-        pub rest_second : (f : ℕ → W) → ρ ≡ round_two f → AtRest live (flag_at t) (MarksSecond K A live f (flag_at t))
+        pub rest_second : (f : ℕ → W) → ρ ≡ round_two f → AtRest live (cell_at t) (MarksSecond K A live f (cell_at t))
         rest_second f same p q l m (as_first h) = rest_first p q l m h
         rest_second f same p q l m (uneven r r' s n) = told_marked compared p q r r' s (inr (subst (λ σ. Uneven K σ r r') (sym same) n))

@@ -1,6 +1,7 @@
 -- Flags that are set and factors that are written, one at a time.
-use Rattle.std.proofs.Common.{◌≡◌, ℕ, zero, suc, ◌+◌, ◌<◌, Bool, true, false, cond, List, [], ◌∷◌, ◌++◌, length, get_or, take, set, Some, refl, ap, ◌∙◌, ⊎_elim, le_of_suc-le-suc, arith}
-use Rattle.std.proofs.lemmas.List.{take_more, get_or-set_same, get_or-set_other}
+use Rattle.std.proofs.Common.{◌≡◌, ℕ, ◌+◌, ◌<◌, Bool, true, false, cond, not, List, length, get_or, set, Some, refl, ap, ◌∙◌, ⊎_elim, arith}
+use Rattle.std.proofs.lemmas.List.{get_or-set_same, get_or-set_other}
+use Rattle.std.proofs.lemmas.List.Sums.{sum_by-set}
 use Rattle.std.proofs.lemmas.Bool.{cases_eq}
 use Rattle.kinds.specs.Weights.{Weights}
 use Rattle.rules.specs.declared.place.Place.{Place}
@@ -22,23 +23,10 @@ grown_onward flags flags' flags'' g h = record {
 }
 
 unset_set : (flags : List Bool) (q : ℕ) → q < length flags → set_in flags q ≡ false → unset (set flags q true) + 1 ≡ unset flags
-unset_set [] q h e = absurd (omega arith)
-unset_set (true ∷ flags) zero h e = let z : ◌≡◌ {A = ℕ} 0 1 = cc in absurd (omega arith)
-unset_set (false ∷ flags) zero h e = omega arith
-unset_set (true ∷ flags) (suc q) h e = let ih = unset_set flags q (le_of_suc-le-suc h) e in omega arith
-unset_set (false ∷ flags) (suc q) h e = let ih = unset_set flags q (le_of_suc-le-suc h) e in omega arith
-
-unset_push : (flags : List Bool) (b : Bool) → unset (flags ++ b ∷ []) ≡ unset flags + cond b 0 1
-unset_push [] b = omega arith
-unset_push (x ∷ flags) b = let ih = unset_push flags b in omega arith
-
--- one flag more, read as b
-pub unset_more : (flags : List Bool) (k n : ℕ) (b : Bool) → k < length flags → get_or flags k false ≡ b → n ≡ unset (take k flags) → n + cond b 0 1 ≡ unset (take (k + 1) flags)
-unset_more flags k n b h read e =
-    let more = unset_push (take k flags) (get_or flags k false) in
-    let same : ◌≡◌ {A = ℕ} (cond (get_or flags k false) 0 1) (cond b 0 1) = ap (λ (x : Bool). cond x 0 1) read in
-    let cut : unset (take (k + 1) flags) ≡ unset (take k flags ++ get_or flags k false ∷ []) = ap unset (take_more flags k false h) in
-    omega arith
+unset_set flags q h e =
+    let one : ◌≡◌ {A = ℕ} (cond (not (get_or flags q false)) 1 0) 1 = ap (λ (b : Bool). cond (not b) 1 0) e in
+    let both : unset (set flags q true) + cond (not (get_or flags q false)) 1 0 ≡ unset flags + 0 = sum_by-set (λ (b : Bool). cond (not b) 1 0) flags q true false h in
+    omega (arith, one, both)
 
 pub grown_set : (flags : List Bool) (q : ℕ) → q < length flags → set_in flags q ≡ false → Grown flags (set flags q true)
 grown_set flags q h off =

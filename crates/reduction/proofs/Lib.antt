@@ -12,7 +12,6 @@ pub mod Numbers
 pub mod Renames
 pub mod Replacing
 pub mod RuleTurns
-pub mod Undone
 pub mod Comparisons
 pub mod Counterparts
 pub mod Differences

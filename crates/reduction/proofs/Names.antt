@@ -1,6 +1,6 @@
 -- Classes put for states one after another.
 use Rattle.std.proofs.Common.{◌≡◌, ℕ, zero, suc, ◌+◌, ◌<◌, ◌≤◌, Bool, true, false, cond, ◌&&◌, List, [], ◌∷◌, ◌++◌, map, length, get_or, take, set, is_some, Some, None, unwrap_or, sym, refl, ap, ◌∙◌, subst, ap₂, le_of_suc-le-suc, arith}
-use Rattle.std.proofs.lemmas.List.{length-take-le, get_or-take, take_more, take_more_set, map_push}
+use Rattle.std.proofs.lemmas.List.{take_all, take_more, take_more_set, map_push}
 use Rattle.std.proofs.lemmas.Bool.{and_left, and_right}
 use Rattle.automata.specs.Merging.{all_in}
 use Rattle.reduction.specs.declared.classes.Classes.{Classes}
@@ -47,16 +47,15 @@ module _ (c : Classes) (qs : List ℕ) where
             ∙ ap (map (class_in c)) (sym more);
       }
 
-  -- a state among the first n that does not stay
-  pub named_lacks : (n k p : ℕ) → k < n → n ≤ length qs → p ≡ get_or qs k 0 → None ≡ class_at c p → None ≡ classes_of c (take n qs)
-  named_lacks n k p h l read found =
-      let here : class_at c (get_or (take n qs) k 0) ≡ None = ap (class_at c) (get_or-take n qs k 0 h ∙ sym read) ∙ sym found in
-      let long : length (take n qs) ≡ n = length-take-le n qs l in
-      let no : all_in (member_in c) (take n qs) ≡ false = all_in_lacks (member_in c) (take n qs) k (omega arith) (ap is_some here) in
-      sym (ap (λ b. cond b (Some (map (class_in c) (take n qs))) None) no)
+  -- a state among them that does not stay
+  pub named_lacks : (k p : ℕ) → k < length qs → p ≡ get_or qs k 0 → None ≡ class_at c p → None ≡ classes_of c qs
+  named_lacks k p h read found =
+      let here : class_at c (get_or qs k 0) ≡ None = ap (class_at c) (sym read) ∙ sym found in
+      sym (ap (λ b. cond b (Some (map (class_in c) qs)) None) (all_in_lacks (member_in c) qs k h (ap is_some here)))
 
-  pub named_all : (places : List ℕ) (n k : ℕ) → n ≤ k → k ≤ n → Named places k → Some (take n places) ≡ classes_of c (take n qs)
-  named_all places n k l h named =
+  pub named_all : (places : List ℕ) (n k : ℕ) → length qs ≡ n → n ≤ k → k ≤ n → Named places k → Some (take n places) ≡ classes_of c qs
+  named_all places n k long l h named =
       let e : k ≡ n = omega arith in
       let all : Named places n = subst (Named places) e named in
-      ap Some all.classes ∙ sym (ap (λ b. cond b (Some (map (class_in c) (take n qs))) None) all.stay)
+      let whole : take n qs ≡ qs = take_all n qs (omega (arith, long)) in
+      ap Some (all.classes ∙ ap (map (class_in c)) whole) ∙ sym (ap (λ b. cond b (Some (map (class_in c) qs)) None) (ap (all_in (member_in c)) (sym whole) ∙ all.stay))

@@ -2,8 +2,8 @@
 use Rattle.std.proofs.Common.{◌≡◌, ℕ, Bool, true, false, cond, ◌&&◌, ◌||◌, eqb, ◌⊎◌, sym, refl, ap, ◌∙◌, ap₂, inl, inr, ⊎_elim}
 use Rattle.std.proofs.lemmas.Bool.{eqb-true, eq-eqb, and_parts, and_from, or_cases, or_left}
 use Rattle.automata.specs.Marking.{Symmetric}
-use Rattle.pairs.specs.declared.pair_flags.PairFlags.{PairFlags}
-use Rattle.pairs.specs.Cells.{flag_at}
+use Rattle.pairs.specs.declared.pair_table.PairTable.{PairTable}
+use Rattle.pairs.specs.Cells.{cell_at}
 
 -- two tests that pass together are one
 pub same_tests : (b c : Bool) → (b ≡ true → c ≡ true) → (c ≡ true → b ≡ true) → b ≡ c
@@ -20,36 +20,36 @@ either true c e = inr refl
 either false c e = inl e
 
 -- t' has besides the marks of t that of p, q
-module _ (t t' : PairFlags) (p q : ℕ) (marks : (x y : ℕ) → flag_at t' x y ≡ cond (eqb x p && eqb y q) true (flag_at t x y)) where
-  pub mark_kept : (x y : ℕ) → flag_at t x y ≡ true → flag_at t' x y ≡ true
-  mark_kept x y e = marks x y ∙ stays (eqb x p && eqb y q) (flag_at t x y) e
+module _ (t t' : PairTable Bool) (p q : ℕ) (marks : (x y : ℕ) → cell_at t' x y ≡ cond (eqb x p && eqb y q) true (cell_at t x y)) where
+  pub mark_kept : (x y : ℕ) → cell_at t x y ≡ true → cell_at t' x y ≡ true
+  mark_kept x y e = marks x y ∙ stays (eqb x p && eqb y q) (cell_at t x y) e
 
-  pub mark_here : flag_at t' p q ≡ true
-  mark_here = marks p q ∙ ap (λ b. cond b true (flag_at t p q)) (and_from (eqb p p) (eqb q q) (eq-eqb p p refl) (eq-eqb q q refl))
+  pub mark_here : cell_at t' p q ≡ true
+  mark_here = marks p q ∙ ap (λ b. cond b true (cell_at t p q)) (and_from (eqb p p) (eqb q q) (eq-eqb p p refl) (eq-eqb q q refl))
 
-  pub mark_only : (x y : ℕ) → flag_at t' x y ≡ true → (flag_at t x y ≡ true) ⊎ ((x ≡ p) × (y ≡ q))
+  pub mark_only : (x y : ℕ) → cell_at t' x y ≡ true → (cell_at t x y ≡ true) ⊎ ((x ≡ p) × (y ≡ q))
   mark_only x y e =
       ⊎_elim inl (λ b. let h = and_parts (eqb x p) (eqb y q) b in inr (eqb-true x p h.0, eqb-true y q h.1))
-      (either (eqb x p && eqb y q) (flag_at t x y) (sym (marks x y) ∙ e))
+      (either (eqb x p && eqb y q) (cell_at t x y) (sym (marks x y) ∙ e))
 
 -- and that of q, p
-module _ (t t' : PairFlags) (p q : ℕ) (marks : (x y : ℕ) → flag_at t' x y ≡ cond ((eqb x p && eqb y q) || (eqb x q && eqb y p)) true (flag_at t x y)) where
-  pub both_kept : (x y : ℕ) → flag_at t x y ≡ true → flag_at t' x y ≡ true
-  both_kept x y e = marks x y ∙ stays ((eqb x p && eqb y q) || (eqb x q && eqb y p)) (flag_at t x y) e
+module _ (t t' : PairTable Bool) (p q : ℕ) (marks : (x y : ℕ) → cell_at t' x y ≡ cond ((eqb x p && eqb y q) || (eqb x q && eqb y p)) true (cell_at t x y)) where
+  pub both_kept : (x y : ℕ) → cell_at t x y ≡ true → cell_at t' x y ≡ true
+  both_kept x y e = marks x y ∙ stays ((eqb x p && eqb y q) || (eqb x q && eqb y p)) (cell_at t x y) e
 
-  pub both_here : flag_at t' p q ≡ true
+  pub both_here : cell_at t' p q ≡ true
   both_here =
       marks p q
-      ∙ ap (λ b. cond b true (flag_at t p q)) (or_left (eqb p p && eqb q q) (eqb p q && eqb q p) (and_from (eqb p p) (eqb q q) (eq-eqb p p refl) (eq-eqb q q refl)))
+      ∙ ap (λ b. cond b true (cell_at t p q)) (or_left (eqb p p && eqb q q) (eqb p q && eqb q p) (and_from (eqb p p) (eqb q q) (eq-eqb p p refl) (eq-eqb q q refl)))
 
-  pub both_only : (x y : ℕ) → flag_at t' x y ≡ true → (flag_at t x y ≡ true) ⊎ (((x ≡ p) × (y ≡ q)) ⊎ ((x ≡ q) × (y ≡ p)))
+  pub both_only : (x y : ℕ) → cell_at t' x y ≡ true → (cell_at t x y ≡ true) ⊎ (((x ≡ p) × (y ≡ q)) ⊎ ((x ≡ q) × (y ≡ p)))
   both_only x y e =
       ⊎_elim inl
       (λ b. inr (⊎_elim
       (λ k. let h = and_parts (eqb x p) (eqb y q) k in inl (eqb-true x p h.0, eqb-true y q h.1))
       (λ k. let h = and_parts (eqb x q) (eqb y p) k in inr (eqb-true x q h.0, eqb-true y p h.1))
       (or_cases (eqb x p && eqb y q) (eqb x q && eqb y p) b)))
-      (either ((eqb x p && eqb y q) || (eqb x q && eqb y p)) (flag_at t x y) (sym (marks x y) ∙ e))
+      (either ((eqb x p && eqb y q) || (eqb x q && eqb y p)) (cell_at t x y) (sym (marks x y) ∙ e))
 
   swapped_tests : (a b c d : Bool) → ((a && b) || (c && d)) ≡ ((d && c) || (b && a))
   swapped_tests true true c d = rest d c
@@ -71,7 +71,7 @@ module _ (t t' : PairFlags) (p q : ℕ) (marks : (x y : ℕ) → flag_at t' x y 
   swapped_tests false false false true = refl
   swapped_tests false false false false = refl
 
-  pub both_symmetric : Symmetric (flag_at t) → Symmetric (flag_at t')
+  pub both_symmetric : Symmetric (cell_at t) → Symmetric (cell_at t')
   both_symmetric symmetric x y =
       marks x y
       ∙ ap₂ (λ b m. cond b true m) (swapped_tests (eqb x p) (eqb y q) (eqb x q) (eqb y p)) (symmetric x y)

@@ -5,7 +5,7 @@ use Rattle.std.proofs.lemmas.List.{length-take-le, length-set, set_split, set-ge
 use Rattle.kinds.specs.Weights.{Weights}
 use Rattle.automata.specs.Trees.{rank}
 use Rattle.automata.specs.Automata.{Automaton, find}
-use Rattle.liveness.specs.Reaching.{children_in}
+use Rattle.rules.specs.Shapes.{children_in}
 use Rattle.rules.specs.declared.rule.Rule.{Rule}
 use Rattle.rules.specs.declared.shape.Shape.{Shape}
 use Rattle.rules.specs.Shapes.{ranks_in, automaton, transition}

@@ -9,8 +9,8 @@ use Rattle.automata.proofs.SameSigns.{signs_back}
 use Rattle.automata.proofs.Equivalents.{equivalences}
 use Rattle.automata.proofs.Marks.{not_marked, first_round}
 use Rattle.automata.proofs.SecondMarks.{second_round}
-use Rattle.pairs.specs.declared.pair_flags.PairFlags.{PairFlags}
-use Rattle.pairs.specs.Cells.{flag_at}
+use Rattle.pairs.specs.declared.pair_table.PairTable.{PairTable}
+use Rattle.pairs.specs.Cells.{cell_at}
 use Rattle.pairs.specs.Counts.{marked_count}
 use Rattle.reduction.specs.Rounds.{Round, round_one, round_two, Truth, Good, Grown, Swept}
 use Rattle.reduction.proofs.PairMarks.{both_kept, both_only, both_symmetric}
@@ -48,11 +48,11 @@ module _ {W : Type 0} (K : Weights W) (A : Automaton W) (live : ℕ → Bool) wh
   unmarked_itself sound (round_two f) marks truth p e = truth.0 p p e K.one ((equivalences K A sound).reflexive p)
 
   -- one pair more, marked both ways
-  pub good_marked : Sound A → DecidesLive K A live → (ρ : Round W) (t t' : PairFlags) (p q : ℕ) → ((x y : ℕ) → flag_at t' x y ≡ cond ((eqb x p && eqb y q) || (eqb x q && eqb y p)) true (flag_at t x y)) → live p ≡ true → live q ≡ true → Adds ρ (flag_at t) p q → Good K A live ρ (flag_at t) → Good K A live ρ (flag_at t')
+  pub good_marked : Sound A → DecidesLive K A live → (ρ : Round W) (t t' : PairTable Bool) (p q : ℕ) → ((x y : ℕ) → cell_at t' x y ≡ cond ((eqb x p && eqb y q) || (eqb x q && eqb y p)) true (cell_at t x y)) → live p ≡ true → live q ≡ true → Adds ρ (cell_at t) p q → Good K A live ρ (cell_at t) → Good K A live ρ (cell_at t')
   good_marked sound decides ρ t t' p q marks l m adds good =
-      let apart : Apart ρ p q = apart_added sound decides ρ (flag_at t) good.truth p q l m adds in
+      let apart : Apart ρ p q = apart_added sound decides ρ (cell_at t) good.truth p q l m adds in
       record {
-        truth = truth_more ρ (flag_at t) (flag_at t') (both_kept t t' p q marks)
+        truth = truth_more ρ (cell_at t) (cell_at t') (both_kept t t' p q marks)
             (λ x y e. ⊎_elim inl (λ b. inr (⊎_elim
             (λ h. rw (h.0, h.1) apart)
             (λ h. rw (h.0, h.1) (apart_back sound ρ p q apart))
@@ -61,23 +61,23 @@ module _ {W : Type 0} (K : Weights W) (A : Automaton W) (live : ℕ → Bool) wh
         symmetric = both_symmetric t t' p q marks good.symmetric;
       }
 
-  pub grown_marked : (ρ : Round W) (t t' : PairFlags) (p q : ℕ) → ((x y : ℕ) → flag_at t' x y ≡ cond ((eqb x p && eqb y q) || (eqb x q && eqb y p)) true (flag_at t x y)) → live p ≡ true → live q ≡ true → (Sound A → Adds ρ (flag_at t) p q) → Grown K A live ρ t t'
+  pub grown_marked : (ρ : Round W) (t t' : PairTable Bool) (p q : ℕ) → ((x y : ℕ) → cell_at t' x y ≡ cond ((eqb x p && eqb y q) || (eqb x q && eqb y p)) true (cell_at t x y)) → live p ≡ true → live q ≡ true → (Sound A → Adds ρ (cell_at t) p q) → Grown K A live ρ t t'
   grown_marked ρ t t' p q marks l m adds = record {
     kept = both_kept t t' p q marks;
     good = λ sound decides. good_marked sound decides ρ t t' p q marks l m (adds sound);
   }
 
-  pub grown_same : (ρ : Round W) (t : PairFlags) → Grown K A live ρ t t
+  pub grown_same : (ρ : Round W) (t : PairTable Bool) → Grown K A live ρ t t
   grown_same ρ t = record { kept = λ x y e. e; good = λ sound decides good. good }
 
-  pub grown_onward : (ρ : Round W) (t t' t'' : PairFlags) → Grown K A live ρ t t' → Grown K A live ρ t' t'' → Grown K A live ρ t t''
+  pub grown_onward : (ρ : Round W) (t t' t'' : PairTable Bool) → Grown K A live ρ t t' → Grown K A live ρ t' t'' → Grown K A live ρ t t''
   grown_onward ρ t t' t'' g h = record {
     kept = λ x y e. h.kept x y (g.kept x y e);
     good = λ sound decides good. h.good sound decides (g.good sound decides good);
   }
 
   -- a step with the result b, and a step after it that marks a pair
-  pub swept_marks : (ρ : Round W) (P Q R : PairFlags → Type 0) (t t' t'' : PairFlags) (b : Bool) → Swept K A live ρ P t t' b → Swept K A live ρ Q t' t'' true → Swept K A live ρ R t t'' true
+  pub swept_marks : (ρ : Round W) (P Q R : PairTable Bool → Type 0) (t t' t'' : PairTable Bool) (b : Bool) → Swept K A live ρ P t t' b → Swept K A live ρ Q t' t'' true → Swept K A live ρ R t t'' true
   swept_marks ρ P Q R t t' t'' b g h = record {
     grown = grown_onward ρ t t' t'' g.grown h.grown;
     same = λ e. absurd (both_ways true e refl);
@@ -89,7 +89,7 @@ module _ {W : Type 0} (K : Weights W) (A : Automaton W) (live : ℕ → Bool) wh
   }
 
   -- and one that marks none
-  pub swept_past : (ρ : Round W) (P Q R : PairFlags → Type 0) (t t' t'' : PairFlags) (b : Bool) → (P t → Q t → R t) → Swept K A live ρ P t t' b → Swept K A live ρ Q t' t'' false → Swept K A live ρ R t t'' b
+  pub swept_past : (ρ : Round W) (P Q R : PairTable Bool → Type 0) (t t' t'' : PairTable Bool) (b : Bool) → (P t → Q t → R t) → Swept K A live ρ P t t' b → Swept K A live ρ Q t' t'' false → Swept K A live ρ R t t'' b
   swept_past ρ P Q R t t' t'' b both g h = record {
     grown = grown_onward ρ t t' t'' g.grown h.grown;
     same = λ e. h.same refl ∙ g.same e;
@@ -97,7 +97,7 @@ module _ {W : Type 0} (K : Weights W) (A : Automaton W) (live : ℕ → Bool) wh
     rest = λ e. both (g.rest e) (subst Q (g.same e) (h.rest refl));
   }
 
-  pub swept_none : (ρ : Round W) (P : PairFlags → Type 0) (t : PairFlags) → P t → Swept K A live ρ P t t false
+  pub swept_none : (ρ : Round W) (P : PairTable Bool → Type 0) (t : PairTable Bool) → P t → Swept K A live ρ P t t false
   swept_none ρ P t rest = record {
     grown = grown_same ρ t;
     same = λ e. refl;

@@ -1,19 +1,17 @@
 -- Choosing a factor for each live state, class after class.
-use Rattle.std.specs.Prelude.{◌≡◌, ℕ, ◌+◌, ◌<◌, ◌≤◌, Bool, true, false, cond, List, [], ◌∷◌, length, Some, ◌≢◌, slice_set}
+use Rattle.std.specs.Prelude.{◌≡◌, ℕ, ◌<◌, ◌≤◌, Bool, true, false, not, List, length, count_by, Some, ◌≢◌, slice_set}
 use Rattle.std.specs.List.{AllByRecursion}
 use Rattle.kinds.specs.Weights.{Weights}
 use Rattle.automata.specs.Automata.{Transition, Automaton, find, Sound}
 use Rattle.automata.specs.Contexts.{Context, OverContext, value}
 use Rattle.automata.specs.Marking.{DecidesLive}
 use Rattle.automata.specs.Merging.{keeps}
-use Rattle.liveness.specs.declared.life.Life.{Life}
-use Rattle.liveness.specs.Reaching.{children_in}
-use Rattle.pairs.specs.declared.pair_flags.PairFlags.{PairFlags}
-use Rattle.pairs.specs.Cells.{flag_at}
+use Rattle.pairs.specs.Cells.{cell_at}
 use Rattle.rules.specs.declared.place.Place.{Place}
 use Rattle.rules.specs.declared.rule.Rule.{Rule}
-use Rattle.rules.specs.declared.shape.Shape.{Shape}
-use Rattle.rules.specs.Shapes.{ranks_in, automaton, transition}
+use Rattle.rules.specs.declared.table.Table.{Table}
+use Rattle.rules.specs.Shapes.{ranks_in, children_in, automaton_of, transition}
+use Rattle.reduction.specs.declared.chooser.Chooser.{Chooser}
 use Rattle.reduction.specs.Classes.{factor_at}
 use Rattle.reduction.specs.Marking.{set_in, live_in, ToldFirst}
 
@@ -36,16 +34,16 @@ pub record Choosing {W : Type 0} (K : Weights W) (A : Automaton W) (live : ℕ �
   pub closed : (p q : ℕ) → chosen p ≡ true → live q ≡ true → marks p q ≡ false → chosen q ≡ true
   pub common : (p q : ℕ) → chosen p ≡ true → chosen q ≡ true → marks p q ≡ false → Common K A f p q
 
-abbrev pub Readiness : {V W : Type 0} → (V → W) → Weights W → Shape → List (Rule V) → Life → PairFlags → List (Place V) → Type 0
-Readiness stands K shape rules life marks work = Ready K (automaton stands shape rules) (live_in life) (flag_at marks) (length work)
+abbrev pub Readiness : {V W : Type 0} → (V → W) → Weights W → Chooser V → List (Place V) → Type 0
+Readiness stands K c work = Ready K (automaton_of stands c.live.now.table) (live_in c.live.now.life.now) (cell_at c.marks.now) (length work)
 
-abbrev pub Choice : {V W : Type 0} → (V → W) → Weights W → Shape → List (Rule V) → Life → PairFlags → List Bool → List (Place V) → Type 0
-Choice stands K shape rules life marks flags work = Choosing K (automaton stands shape rules) (live_in life) (flag_at marks) (set_in flags) (factor_at stands K work)
+abbrev pub Choice : {V W : Type 0} → (V → W) → Weights W → Chooser V → List Bool → List (Place V) → Type 0
+Choice stands K c flags work = Choosing K (automaton_of stands c.live.now.table) (live_in c.live.now.life.now) (cell_at c.marks.now) (set_in flags) (factor_at stands K work)
 
 -- the rule is the one for its left side
-abbrev pub IsRule : {V W : Type 0} → (V → W) → Shape → List (Rule V) → Rule V → Type 0
-IsRule stands shape rules rule =
-    find (automaton stands shape rules).rules rule.left.symbol (children_in shape rule.left) ≡ Some (transition stands (ranks_in shape) rule)
+abbrev pub IsRule : {V W : Type 0} → (V → W) → Table V → Rule V → Type 0
+IsRule stands table rule =
+    find (automaton_of stands table).rules rule.left.symbol (children_in table.shape.now rule.left) ≡ Some (transition stands (ranks_in table.shape.now) rule)
 
 -- the children of a rule of live states are chosen if its target is
 abbrev pub LeadsBack : {W : Type 0} → (ℕ → Bool) → List Bool → List Bool → Transition W → Type 0
@@ -53,8 +51,7 @@ LeadsBack live flags flags' r = keeps live r ≡ true → set_in flags r.target 
 
 -- how many flags are not set
 abbrev pub unset : List Bool → ℕ
-unset [] = 0
-unset (b ∷ bs) = cond b 0 1 + unset bs
+unset flags = count_by not flags
 
 -- flags are set and none is taken back
 pub record Grown (flags flags' : List Bool) : Type 0 where

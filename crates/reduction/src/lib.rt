@@ -3,10 +3,13 @@
 
 mod acceptance;
 mod analysing;
+mod chooser;
 mod choosing;
 mod classes;
 mod comparing;
+mod comparison;
 mod factors;
+mod live_table;
 mod lone;
 mod marking;
 mod merging;

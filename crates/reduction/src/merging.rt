@@ -1,27 +1,24 @@
 // The merge of a table's rules by given classes and factors, in place.
 ghost use Rattle.std.specs.Prelude.{◌≡◌, ◌+◌, ◌<◌, ◌≤◌, map, length, take, if◌then◌else◌, filter, slice_set};
 ghost use Rattle.std.specs.Option.{option_map};
+ghost use Rattle.automata.specs.Trees.{rank};
 ghost use Rattle.automata.specs.Merging.{keeps, relabelled, firsts};
-ghost use Rattle.rules.specs.Shapes.{ranks_in, transition};
+ghost use Rattle.rules.specs.Shapes.{ranks_in, children_in, transition};
 ghost use Rattle.reduction.specs.Classes.{grouping, member_in};
 ghost use Rattle.reduction.specs.Renaming.{classes_of, renamed, taken};
 
 use crate::classes::Classes;
-use crate::factors::pushed_weight;
+use crate::factors::weight_pushed;
 use kinds::Kind;
 use rules::{LeftSide, Place, Rule, Shape, rule_for};
 
-// The classes of the states in the first places, if all stay; the other places are as they were.
-fn child_classes(children: [u8; 4], rank: usize, classes: &Classes) -> Option<[u8; 4]>
-    requires { rank ≤ 4 }
-    ensures { option_map (take rank) result ≡ classes_of classes.now (take rank children) }
+// The classes of the children of a left side, in their places, if all stay; the other places are as they were.
+fn child_classes(shape: &Shape, left: &LeftSide, classes: &Classes) -> Option<[u8; 4]>
+    ensures { option_map (take (rank (ranks_in shape.now) left.now.symbol)) result ≡ classes_of classes.now (children_in shape.now left.now) }
 {
-    let mut places = children;
-    for k in 0..rank {
-        let Some(class) = classes.class(usize::from(children[k])) else {
-            return None;
-        };
-        places[k] = class;
+    let mut places = left.children;
+    for (k, child) in shape.children(left).iter().enumerate() {
+        places[k] = classes.class(usize::from(*child))?;
     }
     Some(places)
 }
@@ -35,30 +32,16 @@ fn merged_rule<W: Kind>(
 ) -> Option<Rule<W>>
     ensures { option_map (transition W.Kind.stands (ranks_in shape.now)) result ≡ renamed W.Kind.weights (grouping W.Kind.stands W.Kind.weights classes.now work.now) (transition W.Kind.stands (ranks_in shape.now) rule.now) }
 {
-    let rank = shape.rank(usize::from(rule.left.symbol));
     let target = classes.class(usize::from(rule.target))?;
-    let children = child_classes(rule.left.children, rank, classes)?;
-    let weight = pushed_weight(rule, rank, work);
+    let children = child_classes(shape, &rule.left, classes)?;
     Some(Rule {
         left: LeftSide {
             symbol: rule.left.symbol,
             children,
         },
         target,
-        weight,
+        weight: weight_pushed(shape, rule, work),
     })
-}
-
-// The same states as wide numbers.
-pub(crate) fn widened(children: &[u8; 4]) -> [usize; 4]
-    ensures { result ≡ children.now }
-{
-    [
-        usize::from(children[0]),
-        usize::from(children[1]),
-        usize::from(children[2]),
-        usize::from(children[3]),
-    ]
 }
 
 // Whether one of the first rules has the left side of this one.
@@ -66,22 +49,9 @@ fn is_taken<W: Kind>(shape: &Shape, rules: &[Rule<W>], count: usize, rule: &Rule
     requires { count ≤ length rules.now }
     ensures { result ≡ taken (map (transition W.Kind.stands (ranks_in shape.now)) (take count rules.now)) (transition W.Kind.stands (ranks_in shape.now) rule.now) }
 {
-    let rank = shape.rank(usize::from(rule.left.symbol));
-    let children = widened(&rule.left.children);
-    rule_for(
-        &rules[0..count],
-        usize::from(rule.left.symbol),
-        &children[0..rank],
-    )
-    .is_some()
-}
-
-// Writes a rule.
-fn put<W: Kind>(rules: &mut [Rule<W>], place: usize, rule: Rule<W>)
-    requires { place < length rules.old }
-    ensures { rules.new ≡ slice_set rules.old place rule }
-{
-    rules[place] = rule;
+    let symbol = usize::from(rule.left.symbol);
+    let children = rule.left.states();
+    rule_for(&rules[..count], symbol, &children[..shape.rank(symbol)]).is_some()
 }
 
 // Puts a rule after the first ones, unless one of them has its left side; how many there are then.
@@ -93,7 +63,7 @@ fn add_rule<W: Kind>(shape: &Shape, rules: &mut [Rule<W>], count: usize, rule: R
     if is_taken(shape, rules, count, &rule) {
         return count;
     }
-    put(rules, count, rule);
+    rules[count] = rule;
     count + 1
 }
 

@@ -11,7 +11,7 @@ use crate::merging::merge_rules;
 use crate::reduced::Reduced;
 use crate::shaping::merged_shape;
 use kinds::Kind;
-use rules::{Place, Rule, Shape};
+use rules::{Place, Rule, Shape, Table};
 use trees::Refusal;
 
 // Reduces a table whose rules are all of these; those that are left stand in front.
@@ -19,7 +19,7 @@ fn reduce_rules<W: Kind>(shape: &Shape, rules: &mut [Rule<W>], work: &mut [Place
     ensures few { result.count ≤ length rules.old }
     ensures reduced { states_in shape.now ≤ length work.old → Sound (automaton W.Kind.stands shape.now rules.old) → ReducedTo W.Kind.stands W.Kind.weights (automaton W.Kind.stands shape.now rules.old) result rules.new }
 {
-    let classes = analyse(shape, rules, work);
+    let classes = analyse(&Table { shape, rules }, work);
     let count = merge_rules(shape, rules, &classes, work);
     Reduced {
         shape: merged_shape(shape, &classes),
@@ -43,5 +43,5 @@ pub fn reduce<W: Kind>(
         return Err(Refusal::Short);
     }
     let used = count.min(memory.len());
-    Ok(reduce_rules(shape, &mut memory[0..used], work))
+    Ok(reduce_rules(shape, &mut memory[..used], work))
 }

@@ -5,27 +5,20 @@ ghost use Rattle.reduction.specs.Acceptance.{accepts_as, class_accepts};
 
 use crate::classes::Classes;
 use rules::Shape;
+use std::array;
 
 // Whether a state is of the class and accepts.
 fn is_accepted_as(shape: &Shape, classes: &Classes, class: usize, state: usize) -> bool
     ensures { result ≡ accepts_as shape.now classes.now class state }
 {
-    match classes.class(state) {
-        Some(own) => usize::from(own) == class && shape.is_accepting(state),
-        None => false,
-    }
+    classes.class(state).is_some_and(|own| usize::from(own) == class && shape.is_accepting(state))
 }
 
 // Whether a state of the class accepts.
 fn is_accepting_class(shape: &Shape, classes: &Classes, class: usize) -> bool
     ensures { result ≡ class_accepts shape.now classes.now class }
 {
-    for q in 0..shape.states() {
-        if is_accepted_as(shape, classes, class, q) {
-            return true;
-        }
-    }
-    false
+    (0..shape.states()).any(|q| is_accepted_as(shape, classes, class, q))
 }
 
 // A mark for each class that accepts.
@@ -33,11 +26,7 @@ fn class_marks(shape: &Shape, classes: &Classes) -> [bool; 48]
     ensures marks { (c : ℕ) → c < 48 → slice_index_or result c false ≡ class_accepts shape.now classes.now c }
     ensures past { (c : ℕ) → 48 ≤ c → slice_index_or result c false ≡ false }
 {
-    let mut marks = [false; 48];
-    for c in 0..48 {
-        marks[c] = is_accepting_class(shape, classes, c);
-    }
-    marks
+    array::from_fn(|class| is_accepting_class(shape, classes, class))
 }
 
 // The shape after a merge: the states are the classes, and a class accepts if a state of it does.

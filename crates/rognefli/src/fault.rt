@@ -1,30 +1,12 @@
 // What can end the program early.
 use std::alloc::AllocError;
-use std::{fmt, io};
+use std::io;
+use thiserror::Error;
 
-#[derive(Debug, Drop)]
+#[derive(Debug, Drop, Error)]
 pub enum Fault {
-    Memory,
-    Io(io::Error),
-}
-
-impl From<AllocError> for Fault {
-    fn from(_e: AllocError) -> Fault {
-        Fault::Memory
-    }
-}
-
-impl From<io::Error> for Fault {
-    fn from(e: io::Error) -> Fault {
-        Fault::Io(e)
-    }
-}
-
-impl fmt::Display for Fault {
-    fn fmt<W: fmt::Write>(&self, f: &mut fmt::Formatter<W>) -> fmt::Result {
-        match self {
-            Fault::Memory => write!(f, "no memory"),
-            Fault::Io(e) => write!(f, "standard input or output: {e}"),
-        }
-    }
+    #[error("no memory")]
+    Memory(#[from] AllocError),
+    #[error("standard input or output: {0}")]
+    Io(#[from] io::Error),
 }

@@ -1,4 +1,8 @@
 // The form of a generated table: classes of states that are equivalent by construction, with some copies each.
+ghost use Rattle.std.specs.Prelude.{◌<◌};
+
+use std::alloc::{AllocError, Global};
+
 #[derive(Clone, Copy)]
 pub struct Form {
     pub classes: usize,
@@ -6,72 +10,84 @@ pub struct Form {
     // symbols of rank 0
     pub leaves: usize,
     // the rank of the other symbols, and how many left sides over classes they have together
-    pub rank: usize,
+    pub rank: u32,
     pub groups: usize,
+    ghost some_classes: { 0 < classes },
+    ghost some_copies: { 0 < copies },
 }
 
-pub fn below(number: usize, bound: usize) -> usize {
-    number.checked_rem(bound).unwrap_or(0)
+// A state of a generated table: a copy of a class.
+#[derive(Clone, Copy)]
+pub struct State {
+    pub class: usize,
+    pub copy: usize,
 }
 
-fn quotient(number: usize, bound: usize) -> usize {
-    number.checked_div(bound).unwrap_or(0)
-}
-
-fn power(base: usize, exponent: usize) -> usize {
-    let mut product = 1usize;
-    for _ in 0..exponent {
-        product = product.wrapping_mul(base);
-    }
-    product
-}
-
-// The last digits of a number, in a base.
-pub fn digits(number: usize, base: usize) -> [usize; 4] {
+// The last digits of a number in a base, the last one first.
+fn digits(heap: Global, number: usize, base: usize, count: u32) -> Result<Vec<usize>, AllocError>
+    requires { 0 < base }
+{
     let mut left = number;
-    let mut digits = [0; 4];
-    for k in 0..4 {
-        digits[k] = below(left, base);
-        left = quotient(left, base);
+    let mut digits = Vec::new(heap);
+    for _ in 0..count {
+        digits.push(left % base)?;
+        left /= base;
     }
-    digits
+    Ok(digits)
 }
 
 impl Form {
     pub fn states(&self) -> usize {
-        self.classes.wrapping_mul(self.copies)
+        self.classes.saturating_mul(self.copies)
     }
 
     // How many left sides over classes one symbol has.
-    fn tuples(&self) -> usize {
-        power(self.classes, self.rank)
-    }
-
-    pub fn symbols(&self) -> usize {
-        let last = quotient(self.groups.wrapping_sub(1), self.tuples());
-        self.leaves.wrapping_add(last).wrapping_add(1)
-    }
-
-    // The symbol and the classes of the children of a group.
-    pub fn symbol_of(&self, group: usize) -> usize {
-        self.leaves.wrapping_add(quotient(group, self.tuples()))
-    }
-
-    pub fn classes_of(&self, group: usize) -> [usize; 4] {
-        digits(below(group.wrapping_mul(7919), self.tuples()), self.classes)
-    }
-
-    pub fn rules(&self) -> usize {
-        self.leaves
-            .wrapping_add(self.groups.wrapping_mul(self.copies_of_group()))
+    fn tuples(&self) -> usize
+        ensures { 0 < result }
+    {
+        self.classes.saturating_pow(self.rank)
     }
 
     // How many rules stand for one left side over classes.
     pub fn copies_of_group(&self) -> usize {
-        power(self.copies, self.rank)
+        self.copies.saturating_pow(self.rank)
     }
 
-    pub fn state(&self, class: usize, copy: usize) -> usize {
-        class.wrapping_mul(self.copies).wrapping_add(copy)
+    pub fn symbols(&self) -> usize {
+        self.leaves
+            .saturating_add(self.groups.div_ceil(self.tuples()))
+    }
+
+    pub fn rules(&self) -> usize {
+        self.leaves
+            .saturating_add(self.groups.saturating_mul(self.copies_of_group()))
+    }
+
+    pub fn symbol_of(&self, group: usize) -> usize {
+        self.leaves.saturating_add(group / self.tuples())
+    }
+
+    // The children of a rule of a group, the rule with this number among those of the group.
+    pub fn children(
+        &self,
+        heap: Global,
+        group: usize,
+        rule: usize,
+    ) -> Result<Vec<State>, AllocError> {
+        let tuple = group.wrapping_mul(7919) % self.tuples();
+        let classes = digits(heap, tuple, self.classes, self.rank)?;
+        let copies = digits(heap, rule, self.copies, self.rank)?;
+        classes
+            .iter()
+            .zip(&copies)
+            .map(|(&class, &copy)| State { class, copy })
+            .collect(heap)
+    }
+
+    pub fn number_of(&self, state: State) -> usize {
+        state
+            .class
+            .saturating_mul(self.copies)
+            .saturating_add(state.copy)
     }
 }

@@ -1,16 +1,19 @@
 // Tables with many equivalent states. Two of one form weigh every tree alike, whatever their salts, unless one is changed.
 use crate::fault::Fault;
-use crate::form::{Form, below, digits};
+use crate::form::{Form, State};
 use kinds::{Kind, Residue};
 use rules::Measure;
 use std::alloc::Global;
 use tables::Draft;
 use trees::Refusal;
 
-// Which copies rules lead to and how their weights differ, and whether the last group weighs something else.
+// What a generated table is made from.
 #[derive(Clone, Copy)]
-pub struct Variant {
+pub struct Plan {
+    pub form: Form,
+    // which copies rules lead to, and how their weights differ
     pub salt: usize,
+    // whether the last group weighs something else
     pub changed: bool,
 }
 
@@ -22,120 +25,103 @@ fn mixed(number: usize) -> usize {
 }
 
 fn residue(number: usize) -> Residue {
-    let code = u8::try_from(below(number, 256)).unwrap_or(0);
-    match Residue::read(i64::from(code) + 1) {
-        Ok(weight) => weight,
-        Err(_) => Residue::one(),
-    }
-}
-
-// What a copy of a class weighs more than its first copy; accepting classes have no such difference.
-fn difference(salt: usize, class: usize, copy: usize) -> Residue {
-    if class == 0 {
-        return Residue::one();
-    }
-    residue(mixed(salt.wrapping_add(class.wrapping_mul(64)).wrapping_add(copy)))
+    Residue::read((number % 256) as i64 + 1).unwrap()
 }
 
 pub fn measured(heap: Global, form: &Form) -> Result<Measure, Fault> {
-    let mut ranks = Vec::new(heap);
-    for symbol in 0..form.symbols() {
-        ranks.push(if symbol < form.leaves { 0 } else { form.rank })?;
-    }
+    let mut ranks = vec![in heap; 0; form.leaves]?;
+    ranks.resize(form.symbols(), form.rank as usize)?;
     let mut measure = Measure::fresh();
     measure.measure(ranks.as_slice(), form.states())?;
     Ok(measure)
 }
 
-fn add_leaf(
-    draft: &mut Draft<'_, Residue>,
-    form: &Form,
-    salt: usize,
-    leaf: usize,
-) -> Result<(), Refusal> {
-    let class = below(mixed(leaf), form.classes);
-    let copy = below(mixed(leaf.wrapping_add(salt)), form.copies);
-    let weight = residue(mixed(leaf.wrapping_add(1000))).times(difference(salt, class, copy));
-    draft.add(leaf, &[], form.state(class, copy), weight)
-}
-
-// Every second group leads to the accepting class.
-fn target_class(form: &Form, group: usize) -> usize {
-    if below(group, 2) == 0 {
-        return 0;
-    }
-    below(mixed(group.wrapping_add(5000)), form.classes)
-}
-
-// The states of these copies of the classes.
-fn states_of(form: &Form, classes: &[usize; 4], copies: &[usize; 4]) -> [usize; 4] {
-    let mut states = [0; 4];
-    for k in 0..4 {
-        states[k] = form.state(classes[k], copies[k]);
-    }
-    states
-}
-
-// The product of the differences of the first copies.
-fn differences(rank: usize, salt: usize, classes: &[usize; 4], copies: &[usize; 4]) -> Residue {
-    let mut product = Residue::one();
-    for k in 0..4 {
-        if k < rank {
-            product = product.times(difference(salt, classes[k], copies[k]));
+impl Plan {
+    // What a state weighs more than the first copy of its class; the accepting states have no such difference.
+    fn difference(&self, state: State) -> Residue {
+        if state.class == 0 {
+            return Residue::one();
         }
+        let number = state.class.wrapping_mul(64).wrapping_add(state.copy);
+        residue(mixed(self.salt.wrapping_add(number)))
     }
-    product
-}
 
-// Adds the rule of a group for these copies of its children.
-fn add_copy(
-    draft: &mut Draft<'_, Residue>,
-    form: &Form,
-    variant: Variant,
-    group: usize,
-    copies: &[usize; 4],
-) -> Result<(), Refusal> {
-    let Variant { salt, changed } = variant;
-    let rank = form.rank.min(4);
-    let classes = form.classes_of(group);
-    let states = states_of(form, &classes, copies);
-    let class = target_class(form, group);
-    let [a, b, c, d] = *copies;
-    let sum = salt
-        .wrapping_add(a)
-        .wrapping_add(b)
-        .wrapping_add(c)
-        .wrapping_add(d);
-    let copy = below(sum, form.copies);
-    let other = changed && group.wrapping_add(1) == form.groups;
-    let base = residue(mixed(group.wrapping_add(if other { 9999 } else { 9000 })));
-    let weight = base
-        .times(differences(rank, salt, &classes, copies).inverse())
-        .times(difference(salt, class, copy));
-    draft.add(
-        form.symbol_of(group),
-        &states[0..rank],
-        form.state(class, copy),
-        weight,
-    )
-}
+    fn add_leaf(&self, draft: &mut Draft<'_, Residue>, leaf: usize) -> Result<(), Refusal> {
+        let form = self.form;
+        let state = State {
+            class: mixed(leaf) % form.classes,
+            copy: mixed(leaf.wrapping_add(self.salt)) % form.copies,
+        };
+        let weight = residue(mixed(leaf.wrapping_add(1000))).times(self.difference(state));
+        draft.add(leaf, &[], form.number_of(state), weight)
+    }
 
-// Fills a draft with the rules of the form. The class 0 is accepting.
-pub fn generate(
-    draft: &mut Draft<'_, Residue>,
-    form: &Form,
-    variant: Variant,
-) -> Result<(), Refusal> {
-    for copy in 0..form.copies {
-        draft.accept(form.state(0, copy))?;
-    }
-    for leaf in 0..form.leaves {
-        add_leaf(draft, form, variant.salt, leaf)?;
-    }
-    for group in 0..form.groups {
-        for copy in 0..form.copies_of_group() {
-            add_copy(draft, form, variant, group, &digits(copy, form.copies))?;
+    // Every second group leads to the accepting class.
+    fn target_class(&self, group: usize) -> usize {
+        if group % 2 == 0 {
+            return 0;
         }
+        mixed(group.wrapping_add(5000)) % self.form.classes
     }
-    Ok(())
+
+    // What a group weighs over the first copies of its classes.
+    fn base(&self, group: usize) -> Residue {
+        let last = group.wrapping_add(1) == self.form.groups;
+        residue(mixed(group.wrapping_add(if self.changed && last { 9999 } else { 9000 })))
+    }
+
+    // Adds the rule of a group with this number.
+    fn add_rule(
+        &self,
+        heap: Global,
+        draft: &mut Draft<'_, Residue>,
+        group: usize,
+        rule: usize,
+    ) -> Result<(), Fault> {
+        let form = self.form;
+        let children = form.children(heap, group, rule)?;
+        let numbers: Vec<usize> = children
+            .iter()
+            .map(|child| form.number_of(*child))
+            .collect(heap)?;
+        let turn = children
+            .iter()
+            .fold(self.salt, |sum, child| sum.wrapping_add(child.copy));
+        let target = State {
+            class: self.target_class(group),
+            copy: turn % form.copies,
+        };
+        let differences = children.iter().fold(
+            Residue::one(),
+            |product, child| product.times(self.difference(*child)),
+        );
+        let weight = self
+            .base(group)
+            .times(differences.inverse())
+            .times(self.difference(target));
+        draft.add(
+            form.symbol_of(group),
+            numbers.as_slice(),
+            form.number_of(target),
+            weight,
+        )?;
+        Ok(())
+    }
+
+    // Fills a draft with the rules. The class 0 is accepting.
+    pub fn fill(&self, heap: Global, draft: &mut Draft<'_, Residue>) -> Result<(), Fault> {
+        let form = self.form;
+        for copy in 0..form.copies {
+            draft.accept(form.number_of(State { class: 0, copy }))?;
+        }
+        for leaf in 0..form.leaves {
+            self.add_leaf(draft, leaf)?;
+        }
+        for group in 0..form.groups {
+            for rule in 0..form.copies_of_group() {
+                self.add_rule(heap, draft, group, rule)?;
+            }
+        }
+        Ok(())
+    }
 }

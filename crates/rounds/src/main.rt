@@ -12,47 +12,42 @@ use round::round;
 use std::process::ExitCode;
 
 // Forms at the limits of tables: 48 states, up to 32 symbols, up to 1,024 rules, and ranks 1, 2 and 4.
+const FORMS: [Form; 4] = [
+    Form {
+        classes: 8,
+        copies: 6,
+        leaves: 16,
+        rank: 2,
+        groups: 28,
+    },
+    Form {
+        classes: 1,
+        copies: 48,
+        leaves: 11,
+        rank: 1,
+        groups: 21,
+    },
+    Form {
+        classes: 4,
+        copies: 12,
+        leaves: 11,
+        rank: 1,
+        groups: 84,
+    },
+    Form {
+        classes: 16,
+        copies: 3,
+        leaves: 31,
+        rank: 4,
+        groups: 12,
+    },
+];
+
 fn run(rt: &HostRuntime) -> Result<(), Fault> {
-    round(
-        rt,
-        &Form {
-            classes: 8,
-            copies: 6,
-            leaves: 16,
-            rank: 2,
-            groups: 28,
-        },
-    )?;
-    round(
-        rt,
-        &Form {
-            classes: 1,
-            copies: 48,
-            leaves: 11,
-            rank: 1,
-            groups: 21,
-        },
-    )?;
-    round(
-        rt,
-        &Form {
-            classes: 4,
-            copies: 12,
-            leaves: 11,
-            rank: 1,
-            groups: 84,
-        },
-    )?;
-    round(
-        rt,
-        &Form {
-            classes: 16,
-            copies: 3,
-            leaves: 31,
-            rank: 4,
-            groups: 12,
-        },
-    )
+    for form in FORMS {
+        round(rt, form)?;
+    }
+    Ok(())
 }
 
 fn main(rt: HostRuntime) -> ExitCode {

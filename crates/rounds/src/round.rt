@@ -1,11 +1,10 @@
 // One round: a large table is generated and reduced to a small one, the two are compared, and the large one is deleted.
 use crate::fault::Fault;
 use crate::form::Form;
-use crate::generating::{Variant, generate, measured};
+use crate::generating::{Plan, measured};
 use comparison::Comparison;
 use kinds::{Kind, Residue};
 use rules::{Measure, Place, Rule, Weighing};
-use std::alloc::{AllocError, Global};
 use std::fmt;
 use std::time::Instant;
 use tables::{Closed, Draft};
@@ -22,16 +21,9 @@ impl fmt::Display for Outcome {
     fn fmt<W: fmt::Write>(&self, f: &mut fmt::Formatter<W>) -> fmt::Result {
         match self.0 {
             Weighing::NoRun | Weighing::Ended { .. } => write!(f, "nothing"),
-            Weighing::Weighs { weight, .. } => {
-                let code = weight.code();
-                write!(f, "{code}")
-            }
+            Weighing::Weighs { weight, .. } => write!(f, "{}", weight.code()),
         }
     }
-}
-
-fn rule_memory(heap: Global) -> Result<Vec<Rule<Residue>>, AllocError> {
-    vec![in heap; Rule::blank(); 1024]
 }
 
 fn reduce(rt: &HostRuntime, table: &mut Closed<'_, Residue>) -> Result<(), Fault> {
@@ -79,97 +71,59 @@ fn compare(
     match comparison {
         Comparison::Same => println!(rt; "same: every tree weighs alike in both")?,
         Comparison::Different { entries } => {
-            let entries = entries.min(list.len());
-            weigh_both(rt, first, second, &list.as_slice()[0..entries])?;
+            list.truncate(entries);
+            weigh_both(rt, first, second, list.as_slice())?;
         }
     }
     Ok(())
 }
 
-// Generates a large table and compares another one with it. The large one is gone at the end.
-fn compare_with_large(
+// Generates a table and hands it on. The table is gone at the end.
+fn with_table<F: FnOnce(&mut Closed<'_, Residue>) -> Result<(), Fault>>(
     rt: &HostRuntime,
     measure: &Measure,
-    form: &Form,
-    variant: Variant,
-    other: &mut Closed<'_, Residue>,
-) -> Result<(), Fault> {
-    let mut memory = rule_memory(rt.alloc())?;
-    let mut draft = Draft::open(measure, memory.as_mut_slice());
-    generate(&mut draft, form, variant)?;
-    compare(rt, &mut draft.close(), other)
-}
-
-// Compares two large tables that weigh alike, and two that do not.
-fn compare_large(rt: &HostRuntime, measure: &Measure, form: &Form) -> Result<(), Fault> {
-    let mut memory = rule_memory(rt.alloc())?;
-    let mut draft = Draft::open(measure, memory.as_mut_slice());
-    generate(
-        &mut draft,
-        form,
-        Variant {
-            salt: 2,
-            changed: false,
-        },
-    )?;
-    let mut large = draft.close();
-    println!(rt; "two large tables:")?;
-    compare_with_large(
-        rt,
-        measure,
-        form,
-        Variant {
-            salt: 1,
-            changed: false,
-        },
-        &mut large,
-    )?;
-    println!(rt; "one of them with other weights:")?;
-    compare_with_large(
-        rt,
-        measure,
-        form,
-        Variant {
-            salt: 1,
-            changed: true,
-        },
-        &mut large,
-    )
-}
-
-pub fn round(rt: &HostRuntime, form: &Form) -> Result<(), Fault> {
+    plan: Plan,
+    then: F,
+) -> Result<(), Fault>
+    requires { F.IsAlwaysCallable then }
+{
     let heap = rt.alloc();
+    let mut memory = vec![in heap; Rule::blank(); 1024]?;
+    let mut draft = Draft::open(measure, memory.as_mut_slice());
+    plan.fill(heap, &mut draft)?;
+    then(&mut draft.close())
+}
+
+pub fn round(rt: &HostRuntime, form: Form) -> Result<(), Fault> {
     let Form {
         classes,
         copies,
         rank,
         ..
-    } = *form;
+    } = form;
     let rules = form.rules();
     println!(rt; "generated: {classes} classes of {copies} states, {rules} rules, rank {rank}")?;
-    let measure = measured(heap, form)?;
-    let mut memory = rule_memory(heap)?;
-    let mut draft = Draft::open(&measure, memory.as_mut_slice());
-    generate(
-        &mut draft,
+    let measure = measured(rt.alloc(), &form)?;
+    let plain = Plan {
         form,
-        Variant {
-            salt: 1,
-            changed: false,
-        },
-    )?;
-    let mut small = draft.close();
-    reduce(rt, &mut small)?;
-    compare_with_large(
-        rt,
-        &measure,
-        form,
-        Variant {
-            salt: 1,
-            changed: false,
-        },
-        &mut small,
-    )?;
-    println!(rt; "the large table is deleted")?;
-    compare_large(rt, &measure, form)
+        salt: 1,
+        changed: false,
+    };
+    with_table(rt, &measure, plain, |small| {
+        reduce(rt, small)?;
+        with_table(rt, &measure, plain, |large| compare(rt, large, small))?;
+        println!(rt; "the large table is deleted")?;
+        Ok(())
+    })?;
+    let salted = Plan { salt: 2, ..plain };
+    with_table(rt, &measure, salted, |large| {
+        println!(rt; "two large tables:")?;
+        with_table(rt, &measure, plain, |other| compare(rt, other, large))?;
+        println!(rt; "one of them with other weights:")?;
+        let changed = Plan {
+            changed: true,
+            ..plain
+        };
+        with_table(rt, &measure, changed, |other| compare(rt, other, large))
+    })
 }

@@ -1,5 +1,5 @@
 -- The runs that a work list holds, and what a row of them comes to.
-use Rattle.std.specs.Prelude.{◌≡◌, ℕ, List, [], ◌∷◌, take, Some, None, Option}
+use Rattle.std.specs.Prelude.{ℕ, List, [], ◌∷◌, take, Some, None, Option}
 use Rattle.std.specs.Option.{option_map}
 use Rattle.std.specs.List.{slice_get}
 use Rattle.kinds.specs.Weights.{Weights}
@@ -31,7 +31,6 @@ abbrev pub row_runs : {W : Type 0} → Weights W → List (Option (At W)) → Op
 row_runs K [] = Some (record { states = []; weight = K.one })
 row_runs K (o ∷ os) = beside K o (row_runs K os)
 
--- the states stand in the first n places, and r is the product
-abbrev pub Gathered : {V W : Type 0} → (V → W) → Option (Ats W) → ℕ → List ℕ → Option V → Type 0
-Gathered stands row n states None = row ≡ None
-Gathered stands row n states (Some v) = row ≡ Some (record { states = take n states; weight = stands v })
+-- what the states in the first n places and the product of their weights stand for
+abbrev pub ats_of : {V W : Type 0} → (V → W) → ℕ → List ℕ × V → Ats W
+ats_of stands n r = record { states = take n r.0; weight = stands r.1 }

@@ -3,8 +3,10 @@ use Rattle.std.specs.Prelude.{◌≡◌, ℕ, Bool, true, false, cond, List, map
 use Rattle.automata.specs.Trees.{rank}
 use Rattle.automata.specs.Automata.{Transition, Automaton}
 use Rattle.rules.specs.Measures.{ranks}
+use Rattle.rules.specs.declared.left_side.LeftSide.{LeftSide}
 use Rattle.rules.specs.declared.shape.Shape.{Shape}
 use Rattle.rules.specs.declared.rule.Rule.{Rule}
+use Rattle.rules.specs.declared.table.Table.{Table}
 
 abbrev pub ranks_in : Shape → List ℕ
 ranks_in s = ranks s.measure
@@ -14,6 +16,10 @@ states_in s = s.measure.states
 
 abbrev pub accepts_in : Shape → ℕ → Bool
 accepts_in s q = slice_index_or s.accepting q false
+
+-- the children of a left side
+abbrev pub children_in : Shape → LeftSide → List ℕ
+children_in s l = take (rank (ranks_in s) l.symbol) l.children
 
 -- the state q is marked too, and nothing else has changed
 pub record Marked (q : ℕ) (s s' : Shape) : Type 0 where
@@ -36,3 +42,7 @@ automaton stands s rules = record {
   accepting = accepts_in s;
   rules = map (transition stands (ranks_in s)) rules;
 }
+
+-- what a table to read stands for
+abbrev pub automaton_of : {V W : Type 0} → (V → W) → Table V → Automaton W
+automaton_of stands t = automaton stands t.shape.now t.rules.now

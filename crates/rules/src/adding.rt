@@ -4,12 +4,13 @@ ghost use Rattle.std.specs.List.{AllByRecursion};
 ghost use Rattle.automata.specs.Merging.{all_in};
 ghost use Rattle.trees.specs.Refusals.{first_met, checks, Answers};
 ghost use Rattle.rules.specs.Books.{add_checks, added, holding};
-ghost use Rattle.rules.specs.Shapes.{automaton};
+ghost use Rattle.rules.specs.Shapes.{automaton_of};
 
 use crate::left_side::LeftSide;
 use crate::lookup::rule_for;
 use crate::rule::Rule;
 use crate::shape::Shape;
+use crate::table::Table;
 use kinds::Kind;
 use trees::Refusal;
 
@@ -17,32 +18,27 @@ use trees::Refusal;
 fn are_below(states: usize, list: &[usize]) -> bool
     ensures { result ≡ all_in (λ q. nat_lt q states) list.now }
 {
-    for q in list {
-        if *q >= states {
-            return false;
-        }
-    }
-    true
+    list.iter().all(|q| *q < states)
 }
 
 // Whether no place is left for one more rule.
-fn is_full<W: Kind>(shape: &Shape, rules: &[Rule<W>], places: usize) -> bool
-    ensures { result ≡ nat_le (min places 1024) (length (automaton W.Kind.stands shape.now rules.now).rules) }
+fn is_full<W: Kind>(table: &Table<W>, places: usize) -> bool
+    ensures { result ≡ nat_le (min places 1024) (length (automaton_of W.Kind.stands table.now).rules) }
 {
-    rules.len() >= places.min(1024)
+    table.rules.len() >= places.min(1024)
 }
 
-// The refusal that a rule meets at a table with these rules and places, if it meets one.
+// The refusal that a rule meets at a table with this many places, if it meets one.
 fn add_refusal<W: Kind>(
-    shape: &Shape,
-    rules: &[Rule<W>],
+    table: &Table<W>,
     places: usize,
     symbol: usize,
     children: &[usize],
     target: usize,
 ) -> Option<Refusal>
-    ensures { result ≡ first_met (add_checks (record { places = places; content = automaton W.Kind.stands shape.now rules.now }) symbol children.now target) }
+    ensures { result ≡ first_met (add_checks (record { places = places; content = automaton_of W.Kind.stands table.now }) symbol children.now target) }
 {
+    let shape = table.shape;
     if symbol >= shape.alphabet().len() {
         return Some(Refusal::Symbol);
     }
@@ -53,10 +49,10 @@ fn add_refusal<W: Kind>(
     if target >= states || !are_below(states, children) {
         return Some(Refusal::State);
     }
-    if rule_for(rules, symbol, children).is_some() {
+    if rule_for(table.rules, symbol, children).is_some() {
         return Some(Refusal::Taken);
     }
-    if is_full(shape, rules, places) {
+    if is_full(table, places) {
         return Some(Refusal::Full);
     }
     None
@@ -73,15 +69,8 @@ fn memory_refusal<W: Kind>(
 ) -> Option<Refusal>
     ensures { result ≡ first_met (add_checks (holding W.Kind.stands shape.now memory.now count) symbol children.now target) }
 {
-    let used = count.min(memory.len());
-    add_refusal(
-        shape,
-        &memory[0..used],
-        memory.len(),
-        symbol,
-        children,
-        target,
-    )
+    let table = Table::of_first(shape, memory, count);
+    add_refusal(&table, memory.len(), symbol, children, target)
 }
 
 // The left side with these states in its first places, and 0 in the others.
@@ -91,21 +80,13 @@ fn left_side(symbol: usize, children: &[usize]) -> LeftSide
     ensures children { take (length children.now) result.children ≡ children.now }
 {
     let mut places = [0; 4];
-    for k in 0..children.len() {
-        places[k] = children[k] as u8;
+    for (k, child) in children.iter().enumerate() {
+        places[k] = *child as u8;
     }
     LeftSide {
         symbol: symbol as u8,
         children: places,
     }
-}
-
-// Writes a rule into a place of the memory.
-pub(crate) fn put_rule<W: Kind>(memory: &mut [Rule<W>], place: usize, rule: Rule<W>)
-    requires { place < length memory.old }
-    ensures { memory.new ≡ slice_set memory.old place rule }
-{
-    memory[place] = rule;
 }
 
 // Adds a rule to the first `count` rules of the memory, and answers how many there are then.
@@ -124,14 +105,10 @@ pub fn append<W: Kind>(
         return Err(refusal);
     }
     let left = left_side(symbol, children);
-    put_rule(
-        memory,
-        count,
-        Rule {
-            left,
-            target: target as u8,
-            weight,
-        },
-    );
+    memory[count] = Rule {
+        left,
+        target: target as u8,
+        weight,
+    };
     Ok(count + 1)
 }

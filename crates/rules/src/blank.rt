@@ -38,7 +38,7 @@ impl<W: Kind> Place<W> {
             },
             first: None,
             second: None,
-            mark: 0,
+            mark: None,
         }
     }
 }

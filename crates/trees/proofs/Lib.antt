@@ -1,4 +1,4 @@
-pub mod Answers
+pub mod Arrays
 pub mod Entries
 pub mod Ranks
 pub mod Refusals

@@ -1,9 +1,9 @@
 -- Reading the ranks of an alphabet out of its array.
-use Rattle.std.proofs.Common.{◌≡◌, ℕ, ◌+◌, ◌<◌, ◌≤◌, min, ◌≢◌, List, [], ◌∷◌, ◌++◌, length, get_or, take, set, replicate, Some, None, unwrap_or, sym, ap, ◌∙◌, ⊎_elim, arith}
+use Rattle.std.proofs.Common.{◌≡◌, ℕ, ◌+◌, ◌<◌, ◌≤◌, min, ◌≢◌, List, [], ◌∷◌, ◌++◌, length, get_or, take, set, replicate, Some, unwrap_or, sym, ap, ◌∙◌, ⊎_elim, arith}
 use Rattle.std.specs.List.{slice_get}
-use Rattle.std.proofs.lemmas.List.{get_or-take, get_or-replicate, get_or_past, get_or-set_same, get_or-set_other, set_past, take_more, take_more_set, take_all, length-set, length-take, length-take-le, length-replicate}
-use Rattle.std.proofs.lemmas.Option.{slice_get-get_or, slice_get_past}
-use Rattle.std.proofs.lemmas.Bool.{cases_lt, cases_eq}
+use Rattle.std.proofs.lemmas.List.{get_or-take, get_or-replicate, get_or_past, get_or-set_same, get_or-set_other, take_more, take_more_set, take_all, take_min, length-set, length-take, length-replicate}
+use Rattle.std.proofs.lemmas.Option.{slice_get-get_or, slice_get_past, slice_get_within, get_or_from_slice_get, unwrap_or-slice_get}
+use Rattle.std.proofs.lemmas.Bool.{cases_lt}
 use Rattle.automata.specs.Trees.{rank}
 use Rattle.trees.specs.declared.alphabet.Alphabet.{Alphabet}
 use Rattle.trees.specs.Alphabets.{ranks_of}
@@ -14,31 +14,9 @@ getD_constant n k x =
     ⊎_elim (get_or-replicate n k x x)
     (λ h. let l : length (replicate n x) ≤ k = rw (length-replicate n x) h in get_or_past (replicate n x) k x l) (cases_lt k n)
 
-pub zeros_small : (n k : ℕ) → get_or (replicate n 0) k 0 ≤ 4
-zeros_small n k = omega (arith, getD_constant {X = ℕ} n k 0)
-
--- the n first elements: what stands at i, and nothing past them
-pub nth_take : {X : Type 0} (n : ℕ) (xs : List X) (i : ℕ) (d : X) → n ≤ length xs → i < n → Some (get_or xs i d) ≡ slice_get (take n xs) i
-nth_take n xs i d h k =
-    let l : i < length (take n xs) = rw (length-take-le n xs h) k in
-    ap Some (sym (get_or-take n xs i d k)) ∙ sym (slice_get-get_or (take n xs) i d l)
-
-pub nth_take_past : {X : Type 0} (n : ℕ) (xs : List X) (i : ℕ) → n ≤ length xs → n ≤ i → None ≡ slice_get (take n xs) i
-nth_take_past n xs i h k =
-    let l : length (take n xs) ≤ i = rw (length-take-le n xs h) k in
-    sym (slice_get_past (take n xs) i l)
-
--- an element that is there, and one that is not
+-- an element that is there
 pub nth_some : {X : Type 0} (xs : List X) (i : ℕ) (x d : X) → slice_get xs i ≡ Some x → (i < length xs) × (get_or xs i d ≡ x)
-nth_some xs i x d e =
-    ⊎_elim (λ l. let f : slice_get xs i ≡ Some (get_or xs i d) = slice_get-get_or xs i d l in (l, cc))
-    (λ l. let f : slice_get xs i ≡ None = slice_get_past xs i l in let z : ◌≡◌ {A = ℕ} 0 1 = cc in absurd (omega arith)) (cases_lt i (length xs))
-
-pub nth_none : {X : Type 0} (xs : List X) (i : ℕ) → slice_get xs i ≡ None → i < length xs → ⊥
-nth_none [] i e l = omega arith
-nth_none (x ∷ xs) i e l =
-    let f : slice_get (x ∷ xs) i ≡ Some (get_or (x ∷ xs) i x) = slice_get-get_or (x ∷ xs) i x l in
-    let z : ◌≡◌ {A = ℕ} 0 1 = cc in omega arith
+nth_some xs i x d e = (slice_get_within xs i x e, get_or_from_slice_get xs i x d e)
 
 pub nth_set_same : {X : Type 0} (xs : List X) (i : ℕ) (y : X) → i < length xs → slice_get (set xs i y) i ≡ Some y
 nth_set_same xs i y h =
@@ -57,31 +35,20 @@ copy_more xs ys i d h k e =
 pub copy_all : {X : Type 0} (xs ys : List X) (i : ℕ) → length ys ≡ i → take i xs ≡ take i ys → take (length ys) xs ≡ ys
 copy_all xs ys i n e = ap (λ k. take k xs) n ∙ e ∙ take_all i ys (omega arith)
 
--- a write keeps what holds at every place
-pub set_small : (xs : List ℕ) (i v : ℕ) → v ≤ 4 → ((k : ℕ) → get_or xs k 0 ≤ 4) → (k : ℕ) → get_or (set xs i v) k 0 ≤ 4
-set_small xs i v h all k =
-    ⊎_elim
-    (λ e. ⊎_elim
-    (λ l. let g : get_or (set xs i v) k 0 ≡ v = ap (λ n. get_or (set xs i v) n 0) e ∙ get_or-set_same xs i v 0 l in rw g h)
-    (λ l. rw (set_past xs i v l) (all k)) (cases_lt i (length xs)))
-    (λ n. let g : get_or (set xs i v) k 0 ≡ get_or xs k 0 = get_or-set_other xs i k v 0 n in rw g (all k)) (cases_eq k i)
-
 -- an element or the default, past the end
 pub nth_or : {X : Type 0} (xs : List X) (i : ℕ) (d : X) → unwrap_or (slice_get xs i) d ≡ get_or xs i d
-nth_or xs i d =
-    ⊎_elim (λ l. ap (λ o. unwrap_or o d) (slice_get-get_or xs i d l))
-    (λ l. ap (λ o. unwrap_or o d) (slice_get_past xs i l) ∙ sym (get_or_past xs i d l)) (cases_lt i (length xs))
+nth_or xs i d = unwrap_or-slice_get xs i d
 
 -- every rank of an alphabet is at most 4
 pub rank_small : (a : Alphabet) (s : ℕ) → rank (ranks_of a) s ≤ 4
 rank_small a s =
-    ⊎_elim (λ h. rw (get_or-take a.symbols a.ranks s 0 h) (a.small s))
-    (λ h. let l : length (ranks_of a) ≤ s = omega (arith, length-take a.symbols a.ranks) in rw (get_or_past (ranks_of a) s 0 l) (omega arith)) (cases_lt s a.symbols)
+    let within : s < a.symbols → rank (ranks_of a) s ≤ 4 = λ h. rw (get_or-take a.symbols a.ranks s 0 h) (a.small s) in
+    let past : a.symbols ≤ s → rank (ranks_of a) s ≤ 4 = λ h. omega (arith, get_or_past (ranks_of a) s 0 (omega (arith, length-take a.symbols a.ranks))) in
+    ⊎_elim within past (cases_lt s a.symbols)
 
 pub ranks_few : (a : Alphabet) → length (ranks_of a) ≤ 32
 ranks_few a = omega (arith, length-take a.symbols a.ranks, a.few)
 
 -- no more elements than there are
 pub take_capped : {X : Type 0} (n m : ℕ) (xs : List X) → m ≡ min n (length xs) → take m xs ≡ take n xs
-take_capped n m xs e =
-    ⊎_elim (λ h. ap (λ k. take k xs) (omega arith)) (λ h. take_all m xs (omega arith) ∙ sym (take_all n xs h)) (cases_lt n (length xs))
+take_capped n m xs e = ap (λ k. take k xs) e ∙ take_min n xs

@@ -1,17 +1,16 @@
 -- Which refusal comes first, and what rules one out: ranks within their bounds, and a tree list.
-use Rattle.std.proofs.Common.{◌≡◌, ℕ, ◌<◌, ◌≤◌, Bool, true, false, cond, ◌⊎◌, List, [], ◌∷◌, length, get_or, Some, None, sym, refl, ap, ◌∙◌, inl, inr, arith}
+use Rattle.std.proofs.Common.{◌≡◌, ℕ, ◌<◌, Bool, true, false, cond, ◌⊎◌, List, [], ◌∷◌, length, Some, None, sym, refl, ap, ◌∙◌, inl, inr, arith}
 use Rattle.std.proofs.lemmas.Bool.{both_ways}
 use Rattle.trees.specs.declared.node.Node.{Node}
 use Rattle.trees.specs.declared.refusal.Refusal.{Refusal}
 use Rattle.trees.specs.Refusals.{Check, when, checks, first_met, FirstMet, NoneMet}
-use Rattle.trees.specs.Alphabets.{BadRanks}
 use Rattle.trees.specs.Lists.{IsTreeList, bad_list}
 
 unmet : (b : Bool) (x : Refusal) → b ≡ false → (e : Refusal) → when (b ≡ true) x e → ⊥
 unmet b x f e m = both_ways b f m.0
 
 pub refused_first : (cs : List Check) (e : Refusal) → first_met cs ≡ Some e → FirstMet (checks cs) e
-refused_first [] e h = let z : ◌≡◌ {A = ℕ} 0 1 = cc in absurd (omega arith)
+refused_first [] e h = cc
 refused_first (c ∷ cs) e h = at c.met refl h (refused_first cs e)
   where
     at : (b : Bool) → c.met ≡ b → cond b (Some c.refusal) (first_met cs) ≡ Some e → (first_met cs ≡ Some e → FirstMet (checks cs) e) → FirstMet (checks (c ∷ cs)) e
@@ -23,13 +22,8 @@ refused_none [] h = tt
 refused_none (c ∷ cs) h = at c.met refl h (refused_none cs)
   where
     at : (b : Bool) → c.met ≡ b → cond b (Some c.refusal) (first_met cs) ≡ None → (first_met cs ≡ None → NoneMet (checks cs)) → NoneMet (checks (c ∷ cs))
-    at true m k ih = let z : ◌≡◌ {A = ℕ} 0 1 = cc in absurd (omega arith)
+    at true m k ih = cc
     at false m k ih = (unmet c.met c.refusal m, ih k)
-
-pub ranks_fine : (rs : List ℕ) → 1 ≤ length rs → length rs ≤ 32 → ((k : ℕ) → k < length rs → get_or rs k 0 ≤ 4) → BadRanks rs → ⊥
-ranks_fine rs some few small (inl none) = omega arith
-ranks_fine rs some few small (inr (inl many)) = omega arith
-ranks_fine rs some few small (inr (inr large)) = omega (arith, small large.0 large.1, large.2)
 
 pub list_fine : (ranks : List ℕ) (ns : List Node) → IsTreeList ranks ns → (e : Refusal) → bad_list ranks ns e → ⊥
 list_fine ranks ns is e (inl (wrong)) = go wrong.0

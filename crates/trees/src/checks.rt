@@ -1,18 +1,11 @@
 // The test for a tree list.
-ghost use Rattle.std.specs.Prelude.{◌≡◌, ℕ, ◌<◌, true, ◌↔◌};
+ghost use Rattle.std.specs.Prelude.{◌≡◌, true, ◌↔◌};
 ghost use Rattle.trees.specs.Alphabets.{ranks_of};
-ghost use Rattle.trees.specs.Lists.{Placed, Good, Tested};
+ghost use Rattle.trees.specs.Lists.{Good, Tested};
 
 use crate::alphabet::Alphabet;
 use crate::node::Node;
 use crate::refusal::Refusal;
-
-// Whether the child place `k` of the entry `at` may hold `child`.
-fn is_placed(rank: usize, at: usize, k: usize, child: usize) -> bool
-    ensures { (result ≡ true) ↔ Placed rank at k child }
-{
-    if k < rank { child < at } else { child == 0 }
-}
 
 // Whether a node may stand as the entry with the number `at`.
 fn is_good(alphabet: &Alphabet, at: usize, node: &Node) -> bool
@@ -21,12 +14,8 @@ fn is_good(alphabet: &Alphabet, at: usize, node: &Node) -> bool
     let Some(rank) = alphabet.rank(node.symbol) else {
         return false;
     };
-    for k in 0..4 {
-        if !is_placed(rank, at, k, node.children[k]) {
-            return false;
-        }
-    }
-    true
+    let (children, padding) = node.children.split_at(rank);
+    children.iter().all(|child| *child < at) && padding.iter().all(|child| *child == 0)
 }
 
 // Refuses what is not a tree list over the alphabet, by the first bad entry.

@@ -1,7 +1,9 @@
 // The calls on plain rules, at huge arguments.
 use crate::{Answer, answer_of, leaf};
 use kinds::{Kind, Marks};
-use rules::{Measure, Place, Rule, Shape, Side, append, find, rule_for, run_node, run_of, weigh};
+use rules::{
+    Measure, Place, Rule, Shape, Side, Table, append, find, rule_for, run_node, run_of, weigh,
+};
 use std::test::*;
 use trees::Refusal;
 
@@ -73,8 +75,7 @@ fn huge_arguments(rt: HostRuntime) -> Result<(), Fail> {
     assert!(rt; run_of(work.as_slice(), Side::First, most).is_none());
     assert!(rt;
         run_node(
-            &shape,
-            memory.as_slice(),
+            &Table::of_first(&shape, memory.as_slice(), most),
             &leaf(most),
             work.as_slice(),
             Side::Second,
@@ -88,6 +89,6 @@ fn huge_arguments(rt: HostRuntime) -> Result<(), Fail> {
         &[leaf(0)],
         work.as_mut_slice(),
     );
-    assert_eq!(rt; answer_of(weighed), Answer::Ended(9));
+    assert_eq!(rt; answer_of(weighed), Ok(Answer::Ended(9)));
     Ok(())
 }

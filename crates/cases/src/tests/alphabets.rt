@@ -3,10 +3,7 @@ use std::test::*;
 use trees::{Alphabet, Refusal};
 
 fn refusal_of(ranks: &[usize]) -> Option<Refusal> {
-    match Alphabet::new(ranks) {
-        Ok(_) => None,
-        Err(refusal) => Some(refusal),
-    }
+    Alphabet::new(ranks).err()
 }
 
 #[test]

@@ -1,39 +1,40 @@
 // Comparisons at known values and at their limits.
-use crate::lines::{Line, fill, measured};
-use crate::places::{count_of, marked};
-use crate::witnesses::{compared, count_untouched, untouched};
-use crate::{Answer, answer_of, chain, leaf, over};
+use crate::lines::{Line, fill, links, measured, with_chain, with_table};
+use crate::places::{count_marked, count_untouched, cut, marked, untouched};
+use crate::witnesses::{compared, compared_both_ways};
+use crate::{Answer, answer_of, leaf, over};
 use comparison::Comparison;
 use kinds::{Cost, Kind, Marks, Residue};
-use rules::{Place, Rule};
+use rules::Place;
 use std::alloc::Global;
 use std::process::Abort;
 use std::test::*;
-use tables::{Closed, Draft};
-use trees::{Node, Refusal};
+use tables::Closed;
+use trees::Refusal;
 
-// Compares the table of `chain` at two weights with that at two others.
-fn chains<W: Kind + Clone>(rt: &impl Abort, heap: Global, codes: [i64; 4]) -> Result<usize, Fail> {
-    let measure = measured(&[0, 1], 2)?;
-    let mut memory = vec![in heap; Rule::blank(); 2]?;
-    let mut draft = Draft::<W>::open(&measure, memory.as_mut_slice());
-    chain(&mut draft, W::read(codes[0])?, W::read(codes[1])?)?;
-    let mut first = draft.close();
-    let mut more = vec![in heap; Rule::blank(); 2]?;
-    let mut draft = Draft::<W>::open(&measure, more.as_mut_slice());
-    chain(&mut draft, W::read(codes[2])?, W::read(codes[3])?)?;
-    let mut second = draft.close();
-    compared(rt, heap, &[0, 1], 18, &mut first, &mut second)
+// Compares the chain with two weights with that with two others.
+fn chains<W: Kind + Clone>(
+    rt: &(impl Abort + AllocGlobal),
+    codes: [i64; 4],
+) -> Result<Option<usize>, Fail> {
+    let [a, b, c, d] = codes;
+    with_chain::<W, _, _>(rt.alloc(), a, b, |first| {
+        with_chain(
+            rt.alloc(),
+            c,
+            d,
+            |second| compared(rt, &[0, 1], 18, first, second),
+        )
+    })
 }
 
 #[test]
 fn chains_of_every_kind(rt: HostRuntime) -> Result<(), Fail> {
-    let heap = rt.alloc();
-    assert_eq!(rt; chains::<Residue>(&rt, heap, [4, 8, 2, 16])?, 0);
-    assert_eq!(rt; chains::<Residue>(&rt, heap, [4, 8, 2, 15])?, 2);
-    assert_eq!(rt; chains::<Residue>(&rt, heap, [256, 256, 1, 1])?, 0);
-    assert_eq!(rt; chains::<Residue>(&rt, heap, [256, 1, 1, 1])?, 2);
-    assert_eq!(rt; chains::<Marks>(&rt, heap, [1; 4])?, 0);
+    assert_eq!(rt; chains::<Residue>(&rt, [4, 8, 2, 16])?, None);
+    assert_eq!(rt; chains::<Residue>(&rt, [4, 8, 2, 15])?, Some(2));
+    assert_eq!(rt; chains::<Residue>(&rt, [256, 256, 1, 1])?, None);
+    assert_eq!(rt; chains::<Residue>(&rt, [256, 1, 1, 1])?, Some(2));
+    assert_eq!(rt; chains::<Marks>(&rt, [1; 4])?, None);
     Ok(())
 }
 
@@ -42,324 +43,362 @@ fn chains_of_costs(rt: HostRuntime) -> Result<(), Fail> {
     let most = 2147483647;
     let least = -2147483648;
     for (codes, entries) in [
-        ([most, 1, least, 0], 0),
-        ([0, least, least, 0], 0),
-        ([most, most, -1, -1], 0),
-        ([0, 0, 0, least], 2),
-        ([most, 0, least, 0], 2),
-        ([most, 1, most, 0], 2),
+        ([most, 1, least, 0], None),
+        ([0, least, least, 0], None),
+        ([most, most, -1, -1], None),
+        ([0, 0, 0, least], Some(2)),
+        ([most, 0, least, 0], Some(2)),
+        ([most, 1, most, 0], Some(2)),
     ] {
-        assert_eq!(rt; chains::<Cost>(&rt, rt.alloc(), codes)?, entries);
+        assert_eq!(rt; chains::<Cost>(&rt, codes)?, entries);
     }
     Ok(())
 }
 
-// Compares the tables of these numbers of states, accepting states and rules over leaves 0, 1 and the unary 2, in both orders.
+// A table over leaves 0, 1 and the unary 2: its number of states, its accepting states and its rules.
+#[derive(Clone, Copy)]
+struct Side<'a> {
+    states: usize,
+    accepting: &'a [usize],
+    lines: &'a [Line<'a>],
+}
+
+// The ranks of such a table.
+const RANKS: [usize; 3] = [0, 0, 1];
+
+impl<'a> Side<'a> {
+    fn new(states: usize, accepting: &'a [usize], lines: &'a [Line<'a>]) -> Side<'a> {
+        Side {
+            states,
+            accepting,
+            lines,
+        }
+    }
+
+    // Hands on the table.
+    fn with_table<T, F: FnOnce(&mut Closed<'_, Residue>) -> Result<T, Fail>>(
+        self,
+        heap: Global,
+        then: F,
+    ) -> Result<T, Fail>
+        requires { F.IsAlwaysCallable then }
+    {
+        with_table(
+            heap,
+            &measured(&RANKS, self.states)?,
+            8,
+            |draft| fill(draft, self.accepting, self.lines),
+            then,
+        )
+    }
+}
+
+// Compares two such tables, in both orders.
 fn lined(
-    rt: &impl Abort,
-    heap: Global,
-    states: [usize; 2],
-    first_side: (&[usize], &[Line]),
-    second_side: (&[usize], &[Line]),
-) -> Result<[usize; 2], Fail> {
-    let ranks = [0, 0, 1];
-    let measure = measured(&ranks, states[0])?;
-    let mut memory = vec![in heap; Rule::blank(); 8]?;
-    let mut draft = Draft::<Residue>::open(&measure, memory.as_mut_slice());
-    fill(rt, &mut draft, first_side.0, first_side.1)?;
-    let mut first = draft.close();
-    let mut more = vec![in heap; Rule::blank(); 8]?;
-    let mut draft = Draft::<Residue>::open(&measure.with_states(states[1]), more.as_mut_slice());
-    fill(rt, &mut draft, second_side.0, second_side.1)?;
-    let mut second = draft.close();
-    let there = compared(rt, heap, &ranks, 50, &mut first, &mut second)?;
-    let back = compared(rt, heap, &ranks, 50, &mut second, &mut first)?;
-    Ok([there, back])
+    rt: &(impl Abort + AllocGlobal),
+    one: Side<'_>,
+    other: Side<'_>,
+) -> Result<[Option<usize>; 2], Fail> {
+    one.with_table(rt.alloc(), |first| {
+        other.with_table(
+            rt.alloc(),
+            |second| compared_both_ways(rt, &RANKS, 50, first, second),
+        )
+    })
 }
 
 #[test]
 fn tables_in_which_nothing_weighs(rt: HostRuntime) -> Result<(), Fail> {
-    let heap = rt.alloc();
-    let lines = [Line::constant(0, 0, 4), Line::unary(2, 0, 1, 8)];
+    let lines = [Line::new(0, &[], 0, 4), Line::new(2, &[0], 1, 8)];
     assert_eq!(rt;
-        lined(&rt, heap, [0, 2], (&[], &[]), (&[], &lines))?,
-        [0, 0]
+        lined(&rt, Side::new(0, &[], &[]), Side::new(2, &[], &lines))?,
+        [None; 2]
     );
-    assert_eq!(rt; lined(&rt, heap, [0, 0], (&[], &[]), (&[], &[]))?, [0, 0]);
+    assert_eq!(rt;
+        lined(&rt, Side::new(0, &[], &[]), Side::new(0, &[], &[]))?,
+        [None; 2]
+    );
     // an accepting state that no tree has
     assert_eq!(rt;
-        lined(&rt, heap, [0, 3], (&[], &[]), (&[2], &lines))?,
-        [0, 0]
+        lined(&rt, Side::new(0, &[], &[]), Side::new(3, &[2], &lines))?,
+        [None; 2]
     );
     assert_eq!(rt;
-        lined(&rt, heap, [0, 2], (&[], &[]), (&[1], &lines))?,
-        [2, 2]
+        lined(&rt, Side::new(0, &[], &[]), Side::new(2, &[1], &lines))?,
+        [Some(2); 2]
     );
     assert_eq!(rt;
-        lined(&rt, heap, [2, 2], (&[], &lines), (&[1], &lines))?,
-        [2, 2]
+        lined(&rt, Side::new(2, &[], &lines), Side::new(2, &[1], &lines))?,
+        [Some(2); 2]
     );
     assert_eq!(rt;
-        lined(&rt, heap, [2, 2], (&[0, 1], &lines), (&[1], &lines))?,
-        [1, 1]
+        lined(
+            &rt,
+            Side::new(2, &[0, 1], &lines),
+            Side::new(2, &[1], &lines)
+        )?,
+        [Some(1); 2]
     );
     Ok(())
 }
 
 #[test]
 fn leaves_and_unary_symbols(rt: HostRuntime) -> Result<(), Fail> {
-    let heap = rt.alloc();
     let two = [
-        Line::constant(0, 0, 3),
-        Line::constant(1, 1, 6),
-        Line::unary(2, 0, 2, 10),
-        Line::unary(2, 1, 2, 5),
+        Line::new(0, &[], 0, 3),
+        Line::new(1, &[], 1, 6),
+        Line::new(2, &[0], 2, 10),
+        Line::new(2, &[1], 2, 5),
     ];
     let one = [
-        Line::constant(1, 1, 1),
-        Line::constant(0, 1, 1),
-        Line::unary(2, 1, 0, 30),
+        Line::new(1, &[], 1, 1),
+        Line::new(0, &[], 1, 1),
+        Line::new(2, &[1], 0, 30),
     ];
     assert_eq!(rt;
-        lined(&rt, heap, [3, 2], (&[2], &two), (&[0], &one))?,
-        [0, 0]
+        lined(&rt, Side::new(3, &[2], &two), Side::new(2, &[0], &one))?,
+        [None; 2]
     );
     // a leaf without a rule, and a leaf that weighs something
     assert_eq!(rt;
-        lined(&rt, heap, [3, 2], (&[2], &two), (&[0], &one[1..3]))?,
-        [2, 2]
+        lined(
+            &rt,
+            Side::new(3, &[2], &two),
+            Side::new(2, &[0], &one[1..3])
+        )?,
+        [Some(2); 2]
     );
     assert_eq!(rt;
-        lined(&rt, heap, [3, 2], (&[2], &two), (&[0, 1], &one))?,
-        [1, 1]
+        lined(&rt, Side::new(3, &[2], &two), Side::new(2, &[0, 1], &one))?,
+        [Some(1); 2]
     );
     assert_eq!(rt;
-        lined(&rt, heap, [3, 2], (&[2, 1], &two), (&[0], &one))?,
-        [1, 1]
+        lined(&rt, Side::new(3, &[2, 1], &two), Side::new(2, &[0], &one))?,
+        [Some(1); 2]
     );
     Ok(())
 }
 
-// Compares tables of the rules 0 → 0 / a and 1(0, 0, 0, 0) → 1 / b with state 1 accepting.
-fn fours(rt: &impl Abort, heap: Global, codes: [i64; 4]) -> Result<usize, Fail> {
-    let measure = measured(&[0, 4], 2)?;
-    let mut memory = vec![in heap; Rule::blank(); 2]?;
-    let mut draft = Draft::<Residue>::open(&measure, memory.as_mut_slice());
-    let lines = [
-        Line::constant(0, 0, codes[0]),
-        Line::new(1, [0; 4], 4, 1, codes[1]),
-    ];
-    fill(rt, &mut draft, &[1], &lines)?;
-    let mut first = draft.close();
-    let mut more = vec![in heap; Rule::blank(); 2]?;
-    let mut draft = Draft::<Residue>::open(&measure, more.as_mut_slice());
-    let lines = [
-        Line::constant(0, 0, codes[2]),
-        Line::new(1, [0; 4], 4, 1, codes[3]),
-    ];
-    fill(rt, &mut draft, &[1], &lines)?;
-    let mut second = draft.close();
-    compared(rt, heap, &[0, 4], 18, &mut first, &mut second)
+// Hands on the table of the rules 0 → 0 / low and 1(0, 0, 0, 0) → 1 / high, with state 1 accepting.
+fn with_four<T, F: FnOnce(&mut Closed<'_, Residue>) -> Result<T, Fail>>(
+    heap: Global,
+    low: i64,
+    high: i64,
+    then: F,
+) -> Result<T, Fail>
+    requires { F.IsAlwaysCallable then }
+{
+    let lines = [Line::new(0, &[], 0, low), Line::new(1, &[0; 4], 1, high)];
+    with_table(
+        heap,
+        &measured(&[0, 4], 2)?,
+        2,
+        |draft| fill(draft, &[1], &lines),
+        then,
+    )
+}
+
+// Compares two such tables.
+fn fours(rt: &(impl Abort + AllocGlobal), codes: [i64; 4]) -> Result<Option<usize>, Fail> {
+    let [a, b, c, d] = codes;
+    with_four(rt.alloc(), a, b, |first| {
+        with_four(
+            rt.alloc(),
+            c,
+            d,
+            |second| compared(rt, &[0, 4], 18, first, second),
+        )
+    })
 }
 
 // 2⁴ is 16, and 16 · 241 is 1.
 #[test]
 fn symbols_of_rank_4(rt: HostRuntime) -> Result<(), Fail> {
-    let heap = rt.alloc();
-    assert_eq!(rt; fours(&rt, heap, [1, 16, 2, 1])?, 0);
-    assert_eq!(rt; fours(&rt, heap, [1, 1, 2, 241])?, 0);
-    assert_eq!(rt; fours(&rt, heap, [1, 1, 256, 1])?, 0);
-    assert_ne!(rt; fours(&rt, heap, [1, 2, 2, 1])?, 0);
-    assert_ne!(rt; fours(&rt, heap, [3, 5, 3, 6])?, 0);
+    assert_eq!(rt; fours(&rt, [1, 16, 2, 1])?, None);
+    assert_eq!(rt; fours(&rt, [1, 1, 2, 241])?, None);
+    assert_eq!(rt; fours(&rt, [1, 1, 256, 1])?, None);
+    assert_ne!(rt; fours(&rt, [1, 2, 2, 1])?, None);
+    assert_ne!(rt; fours(&rt, [3, 5, 3, 6])?, None);
     Ok(())
 }
 
-// Compares with the first entries of a tree list and the first places of a work list.
-fn compare_in(
-    first: &mut Closed<'_, Residue>,
-    second: &mut Closed<'_, Residue>,
-    list: &mut [Node],
-    entries: usize,
-    work: &mut [Place<Residue>],
-    places: usize,
-) -> Result<Comparison, Refusal> {
-    let entries = entries.min(list.len());
-    let places = places.min(work.len());
-    first.compare(second, &mut list[0..entries], &mut work[0..places])
-}
-
 // What a table says of 1(0).
-fn weighed(table: &mut Closed<'_, Residue>) -> Answer {
+fn weighed(table: &mut Closed<'_, Residue>) -> Result<Answer, u8> {
     let mut work = [Place::blank(); 2];
     answer_of(table.weigh(&[leaf(0), over(1, 0)], &mut work))
 }
 
 // For two tables of two states: both lists are measured, and a refused comparison leaves lists and tables as they were.
-#[test]
-fn short_lists(rt: HostRuntime) -> Result<(), Fail> {
-    let heap = rt.alloc();
-    let measure = measured(&[0, 1], 2)?;
-    let mut memory = vec![in heap; Rule::blank(); 2]?;
-    let mut draft = Draft::<Residue>::open(&measure, memory.as_mut_slice());
-    chain(&mut draft, Residue::read(4)?, Residue::read(8)?)?;
-    let mut first = draft.close();
-    let mut more = vec![in heap; Rule::blank(); 2]?;
-    let mut draft = Draft::<Residue>::open(&measure, more.as_mut_slice());
-    chain(&mut draft, Residue::read(2)?, Residue::read(15)?)?;
-    let mut second = draft.close();
-    let mut list = vec![in heap; untouched(); 20]?;
-    let mut work = vec![in heap; marked(77); 20]?;
+fn check_short_lists(
+    rt: &(impl Abort + AllocGlobal),
+    first: &mut Closed<'_, Residue>,
+    second: &mut Closed<'_, Residue>,
+) -> Result<(), Fail> {
+    let mut list = vec![in rt.alloc(); untouched(); 20]?;
+    let mut work = vec![in rt.alloc(); marked(); 20]?;
     for (entries, places) in [(17, 18), (18, 17), (17, 17), (0, 20), (20, 0), (0, 0)] {
-        let answer = compare_in(
-            &mut first,
-            &mut second,
-            list.as_mut_slice(),
-            entries,
-            work.as_mut_slice(),
-            places,
+        let answer = first.compare(
+            second,
+            cut(list.as_mut_slice(), entries),
+            cut(work.as_mut_slice(), places),
         );
         assert_eq!(rt; answer, Err(Refusal::Short));
         assert_eq!(rt;
             [
                 count_untouched(list.as_slice()),
-                count_of(77, work.as_slice()),
+                count_marked(work.as_slice()),
             ],
             [20, 20]
         );
         assert_eq!(rt;
-            [weighed(&mut first), weighed(&mut second)],
-            [Answer::Weighs(1, 32), Answer::Weighs(1, 30)]
+            [weighed(first), weighed(second)],
+            [Ok(Answer::Weighs(1, 32)), Ok(Answer::Weighs(1, 30))]
         );
     }
-    let answer = compare_in(
-        &mut first,
-        &mut second,
-        list.as_mut_slice(),
-        18,
-        work.as_mut_slice(),
-        18,
+    let answer = first.compare(
+        second,
+        cut(list.as_mut_slice(), 18),
+        cut(work.as_mut_slice(), 18),
     );
     assert_eq!(rt; answer, Ok(Comparison::Different { entries: 2 }));
     assert_eq!(rt; count_untouched(list.as_slice()), 18);
     assert_eq!(rt;
-        [weighed(&mut first), weighed(&mut second)],
-        [Answer::Weighs(1, 32), Answer::Weighs(1, 30)]
+        [weighed(first), weighed(second)],
+        [Ok(Answer::Weighs(1, 32)), Ok(Answer::Weighs(1, 30))]
     );
     Ok(())
 }
 
-// The answer for tables without rules over these ranks, with lists of so many places; a refused comparison leaves the lists as they were.
-fn over_ranks(
-    rt: &impl Abort,
+#[test]
+fn short_lists(rt: HostRuntime) -> Result<(), Fail> {
+    with_chain(rt.alloc(), 4, 8, |first| {
+        with_chain(
+            rt.alloc(),
+            2,
+            15,
+            |second| check_short_lists(&rt, first, second),
+        )
+    })
+}
+
+// Hands on a table with these ranks, one state and no rules.
+fn with_ranks<T, F: FnOnce(&mut Closed<'_, Residue>) -> Result<T, Fail>>(
     heap: Global,
-    first_ranks: &[usize],
-    second_ranks: &[usize],
+    ranks: &[usize],
+    then: F,
+) -> Result<T, Fail>
+    requires { F.IsAlwaysCallable then }
+{
+    with_table(heap, &measured(ranks, 1)?, 1, |_| Ok(()), then)
+}
+
+// Compares two tables with lists of so many places; a refused comparison leaves the lists as they were.
+fn compare_in(
+    rt: &(impl Abort + AllocGlobal),
+    first: &mut Closed<'_, Residue>,
+    second: &mut Closed<'_, Residue>,
     places: usize,
 ) -> Result<Result<Comparison, Refusal>, Fail> {
-    let mut memory = vec![in heap; Rule::blank(); 1]?;
-    let mut first = Draft::<Residue>::open(
-        &measured(first_ranks, 1)?,
-        memory.as_mut_slice(),
-    ).close();
-    let mut more = vec![in heap; Rule::blank(); 1]?;
-    let mut second = Draft::<Residue>::open(
-        &measured(second_ranks, 1)?,
-        more.as_mut_slice(),
-    ).close();
-    let mut list = vec![in heap; untouched(); 9]?;
-    let mut work = vec![in heap; marked(77); 9]?;
-    let answer = compare_in(
-        &mut first,
-        &mut second,
-        list.as_mut_slice(),
-        places,
-        work.as_mut_slice(),
-        places,
+    let mut list = vec![in rt.alloc(); untouched(); 9]?;
+    let mut work = vec![in rt.alloc(); marked(); 9]?;
+    let answer = first.compare(
+        second,
+        cut(list.as_mut_slice(), places),
+        cut(work.as_mut_slice(), places),
     );
     assert_eq!(rt; count_untouched(list.as_slice()), 9);
     if answer.is_err() {
-        assert_eq!(rt; count_of(77, work.as_slice()), 9);
+        assert_eq!(rt; count_marked(work.as_slice()), 9);
     }
     Ok(answer)
 }
 
+// The answer for tables without rules over these ranks.
+fn over_ranks(
+    rt: &(impl Abort + AllocGlobal),
+    first_ranks: &[usize],
+    second_ranks: &[usize],
+    places: usize,
+) -> Result<Result<Comparison, Refusal>, Fail> {
+    with_ranks(rt.alloc(), first_ranks, |first| {
+        with_ranks(
+            rt.alloc(),
+            second_ranks,
+            |second| compare_in(rt, first, second, places),
+        )
+    })
+}
+
 #[test]
 fn other_alphabets(rt: HostRuntime) -> Result<(), Fail> {
-    let heap = rt.alloc();
     let ranks = [0, 1, 2, 0];
     // the alphabets come before the lists
     for places in [0, 7, 9] {
-        for (i, end) in [(0, 3), (1, 4), (0, 1)] {
-            let part = &ranks[i..end];
+        for part in [&ranks[0..3], &ranks[1..4], &ranks[0..1]] {
             assert_eq!(rt;
-                over_ranks(&rt, heap, &ranks, part, places)?,
+                over_ranks(&rt, &ranks, part, places)?,
                 Err(Refusal::Alphabets)
             );
             assert_eq!(rt;
-                over_ranks(&rt, heap, part, &ranks, places)?,
+                over_ranks(&rt, part, &ranks, places)?,
                 Err(Refusal::Alphabets)
             );
         }
-        assert_eq!(rt;
-            over_ranks(&rt, heap, &ranks, &[0, 2, 1, 0], places)?,
-            Err(Refusal::Alphabets)
-        );
-        assert_eq!(rt;
-            over_ranks(&rt, heap, &ranks, &[0, 1, 2, 1], places)?,
-            Err(Refusal::Alphabets)
-        );
+        for other in [[0, 2, 1, 0], [0, 1, 2, 1]] {
+            assert_eq!(rt;
+                over_ranks(&rt, &ranks, &other, places)?,
+                Err(Refusal::Alphabets)
+            );
+        }
     }
+    assert_eq!(rt; over_ranks(&rt, &ranks, &ranks, 7)?, Err(Refusal::Short));
+    assert_eq!(rt; over_ranks(&rt, &ranks, &ranks, 8)?, Ok(Comparison::Same));
     assert_eq!(rt;
-        over_ranks(&rt, heap, &ranks, &ranks, 7)?,
-        Err(Refusal::Short)
-    );
-    assert_eq!(rt;
-        over_ranks(&rt, heap, &ranks, &ranks, 8)?,
+        over_ranks(&rt, &[0; 32], &[0; 32], 9)?,
         Ok(Comparison::Same)
     );
     assert_eq!(rt;
-        over_ranks(&rt, heap, &[0; 32], &[0; 32], 9)?,
-        Ok(Comparison::Same)
-    );
-    assert_eq!(rt;
-        over_ranks(&rt, heap, &[0; 32], &[0; 31], 9)?,
+        over_ranks(&rt, &[0; 32], &[0; 31], 9)?,
         Err(Refusal::Alphabets)
     );
     Ok(())
 }
 
-// The rules 0 → 0 / 3, 1(q) → q + 1 / 3 for 48 states, the last of which is accepting, but for the last one, whose weight is given.
-fn links(draft: &mut Draft<'_, Residue>, last: i64) -> Result<(), Fail> {
-    let weight = Residue::read(3)?;
-    draft.accept(47)?;
-    draft.add(0, &[], 0, weight)?;
-    for q in 0..46usize {
-        draft.add(1, &[q], q + 1, weight)?;
-    }
-    draft.add(1, &[46], 47, Residue::read(last)?)?;
-    Ok(())
+// Hands on the chain of 48 states whose last weight is given.
+fn with_links<T, F: FnOnce(&mut Closed<'_, Residue>) -> Result<T, Fail>>(
+    heap: Global,
+    last: i64,
+    then: F,
+) -> Result<T, Fail>
+    requires { F.IsAlwaysCallable then }
+{
+    with_table(
+        heap,
+        &measured(&[0, 1], 48)?,
+        48,
+        |draft| links(draft, last),
+        then,
+    )
 }
 
 // Only the tree of 48 nodes weighs something. 4,802 places are the most that are needed.
-fn long_chains(rt: &impl Abort, heap: Global, last: i64, places: usize) -> Result<usize, Fail> {
-    let measure = measured(&[0, 1], 48)?;
-    let mut memory = vec![in heap; Rule::blank(); 48]?;
-    let mut draft = Draft::<Residue>::open(&measure, memory.as_mut_slice());
-    links(&mut draft, 3)?;
-    let mut first = draft.close();
-    let mut more = vec![in heap; Rule::blank(); 48]?;
-    let mut draft = Draft::<Residue>::open(&measure, more.as_mut_slice());
-    links(&mut draft, last)?;
-    let mut second = draft.close();
-    first.push(5, Residue::read(7)?)?;
-    compared(rt, heap, &[0, 1], places, &mut first, &mut second)
+fn long_chains(
+    rt: &(impl Abort + AllocGlobal),
+    last: i64,
+    places: usize,
+) -> Result<Option<usize>, Fail> {
+    with_links(rt.alloc(), 3, |first| {
+        with_links(rt.alloc(), last, |second| {
+            first.push(5, Residue::read(7)?)?;
+            compared(rt, &[0, 1], places, first, second)
+        })
+    })
 }
 
 #[test]
 fn chains_of_48_states(rt: HostRuntime) -> Result<(), Fail> {
-    let heap = rt.alloc();
-    assert_eq!(rt; long_chains(&rt, heap, 3, 4802)?, 0);
-    assert_eq!(rt; long_chains(&rt, heap, 4, 4802)?, 48);
-    assert_eq!(rt; long_chains(&rt, heap, 4, 5000)?, 48);
+    assert_eq!(rt; long_chains(&rt, 3, 4802)?, None);
+    assert_eq!(rt; long_chains(&rt, 4, 4802)?, Some(48));
+    assert_eq!(rt; long_chains(&rt, 4, 5000)?, Some(48));
     Ok(())
 }

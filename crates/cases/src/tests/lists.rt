@@ -1,11 +1,7 @@
 // Tree lists at their limits.
-use crate::{fork, leaf, over};
+use crate::{fork, leaf, node, over};
 use std::test::*;
-use trees::{Alphabet, Node, Refusal, check_list};
-
-fn node(symbol: usize, children: [usize; 4]) -> Node {
-    Node { symbol, children }
-}
+use trees::{Alphabet, Refusal, check_list};
 
 #[test]
 fn lengths_at_their_limits(rt: HostRuntime) -> Result<(), Fail> {

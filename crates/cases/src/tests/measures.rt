@@ -1,5 +1,5 @@
 // Measures at their limits.
-use crate::number_of;
+use crate::numbered;
 use rules::Measure;
 use std::test::*;
 
@@ -12,17 +12,17 @@ fn size_of(measure: &Measure) -> (usize, usize) {
 fn sizes_at_their_limits(rt: HostRuntime) -> Result<(), Fail> {
     let mut measure = Measure::fresh();
     assert_eq!(rt; size_of(&measure), (1, 0));
-    assert_eq!(rt; number_of(measure.measure(&[0, 4], 48)), 0);
+    assert_eq!(rt; numbered(measure.measure(&[0, 4], 48)), Ok(()));
     assert_eq!(rt; size_of(&measure), (2, 48));
     // ranks come before states, and a refused call changes nothing
-    assert_eq!(rt; number_of(measure.measure(&[0; 33], 1)), 1);
-    assert_eq!(rt; number_of(measure.measure(&[], 49)), 1);
-    assert_eq!(rt; number_of(measure.measure(&[5], usize::MAX)), 1);
-    assert_eq!(rt; number_of(measure.measure(&[1], 49)), 2);
-    assert_eq!(rt; number_of(measure.measure(&[1], usize::MAX)), 2);
+    assert_eq!(rt; numbered(measure.measure(&[0; 33], 1)), Err(1));
+    assert_eq!(rt; numbered(measure.measure(&[], 49)), Err(1));
+    assert_eq!(rt; numbered(measure.measure(&[5], usize::MAX)), Err(1));
+    assert_eq!(rt; numbered(measure.measure(&[1], 49)), Err(2));
+    assert_eq!(rt; numbered(measure.measure(&[1], usize::MAX)), Err(2));
     assert_eq!(rt; size_of(&measure), (2, 48));
     assert_eq!(rt; measure.alphabet().rank(1), Some(4));
-    assert_eq!(rt; number_of(measure.measure(&[4; 32], 0)), 0);
+    assert_eq!(rt; numbered(measure.measure(&[4; 32], 0)), Ok(()));
     assert_eq!(rt; size_of(&measure), (32, 0));
     Ok(())
 }

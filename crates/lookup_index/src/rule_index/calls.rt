@@ -1,10 +1,10 @@
 // Making an index of rules, and looking up by it.
 ghost use Rattle.std.specs.Prelude.{◌≡◌, ℕ, ◌<◌, ◌≤◌, List, map, length, Some};
 ghost use Rattle.std.specs.Option.{option_map};
-ghost use Rattle.std.specs.List.{slice_get};
+ghost use Rattle.std.specs.List.{slice_get, position};
 ghost use Rattle.automata.specs.Trees.{rank};
 ghost use Rattle.automata.specs.Automata.{find as find_rule};
-ghost use Rattle.rules.specs.Lookup.{has_left, position};
+ghost use Rattle.rules.specs.Lookup.{has_left};
 ghost use Rattle.rules.specs.Shapes.{ranks_in, transition};
 ghost use Rattle.rules.specs.declared.rule.Rule.{Rule as Held};
 ghost use Rattle.lookup_index.specs.Indexes.{Indexes};

@@ -6,13 +6,18 @@ use crate::cursor::Cursor;
 use crate::fault::Fault;
 use layout::{Line, Reading, line_at};
 
-impl Cursor {
+impl<'p> Cursor<'p> {
     // The first line.
-    pub fn start() -> Cursor
+    pub fn start(page: &'p [u8]) -> Cursor<'p>
+        ensures page { result.page.now ≡ page.now }
         ensures place { result.at ≡ 0 }
         ensures number { result.line ≡ 1 }
     {
-        Cursor { at: 0, line: 1 }
+        Cursor {
+            page,
+            at: 0,
+            line: 1,
+        }
     }
 
     // The number of the next line.
@@ -23,13 +28,15 @@ impl Cursor {
     }
 
     // Reads the next line, and goes on behind it.
-    pub fn next_line<'p>(&mut self, page: &'p [u8]) -> Result<Line<'p>, Fault>
-        ensures { ReadsNext page.now self.old self.new result }
+    pub fn next_line(&mut self) -> Result<Line<'p>, Fault>
+        ensures read { ReadsNext self.old.page.now self.old self.new result }
+        ensures page { self.new.page.now ≡ self.old.page.now }
     {
-        let Some(Reading { line, next }) = line_at(page, self.at) else {
+        let Some(Reading { line, next }) = line_at(self.page, self.at) else {
             return Err(Fault::Layout { line: self.line });
         };
         *self = Cursor {
+            page: self.page,
             at: next,
             line: self.line + 1,
         };
@@ -37,10 +44,10 @@ impl Cursor {
     }
 
     // Sees that no line follows.
-    pub fn read_end(&self, page: &[u8]) -> Result<(), Fault>
-        ensures { ReadsEnd page.now self.now result }
+    pub fn read_end(&self) -> Result<(), Fault>
+        ensures { ReadsEnd self.now.page.now self.now result }
     {
-        if self.at < page.len() {
+        if self.at < self.page.len() {
             Err(Fault::Layout { line: self.line })
         } else {
             Ok(())

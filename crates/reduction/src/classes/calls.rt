@@ -9,6 +9,6 @@ impl Classes {
     pub fn class(&self, state: usize) -> Option<u8>
         ensures { result ≡ class_at self.now state }
     {
-        if state < 48 { self.of[state] } else { None }
+        self.of.get(state).copied().flatten()
     }
 }

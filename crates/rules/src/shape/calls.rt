@@ -1,22 +1,15 @@
 // What a shape answers, and how it comes to be.
 ghost use Rattle.std.specs.Prelude.{◌≡◌, ℕ, ◌≤◌, min, false, [], ◌∷◌, nat_le};
-ghost use Rattle.std.specs.Option.{unwrap_or};
 ghost use Rattle.automata.specs.Trees.{rank};
 ghost use Rattle.trees.specs.Alphabets.{ranks_of};
 ghost use Rattle.trees.specs.declared.refusal.Refusal.TheVariants.{State};
 ghost use Rattle.trees.specs.Refusals.{checks, Answers};
-ghost use Rattle.rules.specs.Shapes.{ranks_in, states_in, accepts_in, Marked};
+ghost use Rattle.rules.specs.Shapes.{ranks_in, states_in, accepts_in, children_in, Marked};
 
+use crate::left_side::LeftSide;
 use crate::measure::Measure;
 use crate::shape::Shape;
 use trees::{Alphabet, Refusal};
-
-// What an option holds, and 0 if it holds nothing.
-fn or_zero(rank: Option<usize>) -> usize
-    ensures { result ≡ unwrap_or rank 0 }
-{
-    rank.unwrap_or(0)
-}
 
 impl Shape {
     fn of_parts(measure: Measure, accepting: [bool; 48]) -> Shape
@@ -44,7 +37,14 @@ impl Shape {
         ensures value { result ≡ rank (ranks_in self.now) symbol }
         ensures small { result ≤ 4 }
     {
-        or_zero(self.alphabet().rank(symbol))
+        self.alphabet().rank_or_zero(symbol)
+    }
+
+    // The children of a left side, as many as its symbol's rank.
+    pub fn children<'a>(&self, left: &'a LeftSide) -> &'a [u8]
+        ensures { result.now ≡ children_in self.now left.now }
+    {
+        &left.children[..self.rank(usize::from(left.symbol))]
     }
 
     pub fn states(&self) -> usize
@@ -57,11 +57,7 @@ impl Shape {
     pub fn is_accepting(&self, state: usize) -> bool
         ensures { result ≡ accepts_in self.now state }
     {
-        if state < 48 {
-            self.accepting[state]
-        } else {
-            false
-        }
+        self.accepting.get(state).copied().unwrap_or(false)
     }
 
     // Marks a state.

@@ -6,11 +6,11 @@ pub write_tree-requires : goal.write_tree-requires
 write_tree-requires g c =
     let f = c.in-Some.ensures in
     record {
-      few = top_small g.W.Kind.weights g.W.Kind.stands c.args.first.now c.args.second.now c.args.first_rules.now c.args.second_rules.now c.find_witness.new.work c.in-Some.top f;
+      few = top_small g.W.Kind.weights g.W.Kind.stands c.args.tables.now.first c.args.tables.now.second c.find_witness.new.work c.in-Some.top f;
       room = omega (arith, f.below, f.few, c.requires.list_room);
-      entries = top_entries g.W.Kind.weights g.W.Kind.stands c.args.first.now c.args.second.now c.args.first_rules.now c.args.second_rules.now c.find_witness.new.work c.in-Some.top f;
+      entries = top_entries g.W.Kind.weights g.W.Kind.stands c.args.tables.now.first c.args.tables.now.second c.find_witness.new.work c.in-Some.top f;
     }
 
 pub returns-in-Some : goal.returns-in-Some
 returns-in-Some g c =
-    told_apart g.W.Kind.weights g.W.Kind.stands c.args.first.now c.args.second.now c.args.first_rules.now c.args.second_rules.now c.find_witness.new.work c.in-Some.top c.in-Some.ensures c.args.list.now c.write_tree.new.list c.write_tree.result c.write_tree.ensures.written
+    told_apart g.W.Kind.weights g.W.Kind.stands c.args.tables.now.first c.args.tables.now.second c.find_witness.new.work c.in-Some.top c.in-Some.ensures c.args.list.now c.write_tree.new.list c.write_tree.result c.write_tree.ensures.written

@@ -1,14 +1,16 @@
-use Rattle.std.proofs.Common.{vec_items, ap, ◌∙◌}
-use Rattle.layout.proofs.Collected.{collected_more, collected_not, collected_all}
+use Rattle.std.proofs.Common.{◌≡◌, ◌∙◌, ap, rules}
+use Rattle.std.proofs.lemmas.Result.{IfOk-weaker}
+use Rattle.std.specs.Iterator.Adapters.{filter_map_source}
+use Rattle.std.specs.Slice.Iter.{chunks_rest, chunks_size}
+use Rattle.layout.proofs.Sixes.{numbers_kept}
 use Rattle.layout.proofs.fields.read_numbers.Goals as goal
-use Rattle.layout.proofs.fields.read_numbers.Goals.{in-Some+in_ok-push, in_default}
-
-pub loop-i-preserved : goal.loop-i-preserved
-loop-i-preserved c =
-    elim c.match-read_number.branch [
-      | in-Some+in_ok-push w ↦ collected_more c.args.part.now c.columns.result.now _ _ c.loop-i.i w.in-Some.number c.loop-i-test.true c.columns.ensures w.in-Some.ensures (ap vec_items w.numbers-is ∙ w.in_ok-push.ensures.items) c.loop-i.invariant
-      | in_default w ↦ collected_not c.args.part.now c.columns.result.now _ c.loop-i.i c.loop-i-test.true c.columns.ensures w.in_default.ensures
-    ]
 
 pub returns : goal.returns
-returns c = collected_all c.args.part.now _ c.loop-i.i c.loop-i-test.false c.loop-i.invariant
+returns c =
+    let six : chunks_size (filter_map_source c.filter_map.result) ≡ 6 = ap chunks_size c.filter_map.ensures.source ∙ c.chunks.ensures.size in
+    let whole : chunks_rest (filter_map_source c.filter_map.result) ≡ c.args.part.now = ap chunks_rest c.filter_map.ensures.source ∙ c.chunks.ensures.rest in
+    IfOk-weaker c.collect.result _ _
+    (λ v d ns short is.
+    let end = d.1.2 tt in
+    d.2.0 ∙ numbers_kept _ (λ f x r q call. search rules) ns short d.0 c.filter_map.result d.1.0 end.0 six (whole ∙ is) d.1.1 end.1)
+    c.collect.ensures.ran

@@ -1,16 +1,15 @@
-use Rattle.std.proofs.Common.{◌≡◌, suc, get_or, sym, ◌∙◌, arith}
-use Rattle.std.proofs.lemmas.List.{take_rest}
-use Rattle.layout.proofs.Minus.{minus_refused, minus_read}
+use Rattle.std.proofs.Common.{sym}
+use Rattle.layout.proofs.Decided.{fails}
+use Rattle.layout.proofs.Decimal.{signed_refused, signed_no_text, text_read}
 use Rattle.layout.proofs.fields.read_signed.Goals as goal
 
-pub returns-in_err-read_decimal-in-45 : goal.returns-in_err-read_decimal-in-45
-returns-in_err-read_decimal-in-45 c =
-    let minus : get_or c.args.text.now 0 0 ≡ 45 = omega arith in
-    rw c.from_residual.ensures
-    (minus_refused c.args.text.now minus (λ n fits is. c.in_err-read_decimal-in-45.ensures (suc n) fits (take_rest c.args.text.now 1 ∙ is)))
+pub returns-in_err-ok : goal.returns-in_err-ok
+returns-in_err-ok c = rw c.from_residual.ensures (signed_no_text c.args.text.now c.from_utf8.result _ _ (sym c.in_err-ok.ensures.variant) c.from_utf8.ensures.cases)
 
-pub returns-in_ok-read_decimal-in-45 : goal.returns-in_ok-read_decimal-in-45
-returns-in_ok-read_decimal-in-45 c =
-    let minus : get_or c.args.text.now 0 0 ≡ 45 = omega arith in
-    let reads = c.in_ok-read_decimal-in-45.ensures in
-    minus_read c.args.text.now c.in_ok-read_decimal-in-45.field-0 c.negative.result minus reads.0 (sym (take_rest c.args.text.now 1) ∙ reads.1) c.negative.ensures
+pub returns-in_ok-ok : goal.returns-in_ok-ok
+returns-in_ok-ok c =
+    rw c.ok-then-starts_number.ensures.value
+    (text_read c.args.text.now c.from_utf8.result c.in_ok-ok.field-0 c.parse.result _ _ c.requires (c.starts_number.ensures.0 c.if-starts_number.true) c.in_ok-ok.ensures.value c.from_utf8.ensures.cases c.parse.ensures.value.0)
+
+pub returns-else-starts_number : goal.returns-else-starts_number
+returns-else-starts_number c = signed_refused c.args.text.now (fails c.starts_number.result c.starts_number.ensures c.if-starts_number.false)

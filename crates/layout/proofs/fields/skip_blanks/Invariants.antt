@@ -1,8 +1,8 @@
-use Rattle.std.proofs.Common.{◌≡◌, ◌-◌, ◌≤◌, length, take, replicate}
+use Rattle.std.proofs.Common.{◌≡◌, ◌-◌, ◌≤◌, ◌++◌, length, replicate}
 use Rattle.layout.proofs.fields.skip_blanks.Given as goal
 
-abbrev pub invariant-loop-blanks : goal.invariant-loop-blanks
-invariant-loop-blanks l = (l.blanks ≤ length l.text) × (take l.blanks l.text ≡ replicate l.blanks 32)
+abbrev pub invariant-loop-rest : goal.invariant-loop-rest
+invariant-loop-rest l = (length l.rest ≤ length l.text) × (l.text ≡ replicate (length l.text - length l.rest) 32 ++ l.rest)
 
-abbrev pub decreases-loop-blanks : goal.decreases-loop-blanks
-decreases-loop-blanks l = length l.text - l.blanks
+abbrev pub decreases-loop-rest : goal.decreases-loop-rest
+decreases-loop-rest l = length l.rest

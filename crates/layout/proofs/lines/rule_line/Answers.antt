@@ -1,31 +1,31 @@
-use Rattle.std.proofs.Common.{refl, ◌∙◌}
-use Rattle.std.proofs.lemmas.List.{take_rest}
+use Rattle.std.proofs.Common.{arith}
 use Rattle.layout.proofs.Decided.{fails}
 use Rattle.layout.proofs.Entries.{rule_found, rule_none}
 use Rattle.layout.proofs.lines.rule_line.Goals as goal
+use Rattle.layout.proofs.lines.rule_line.Goals.{else-children-le24-via-then-children-le24+else-are_numbers, else-children-le24-via-else-children-le24}
 
-pub returns-then-not-rule_sized : goal.returns-then-not-rule_sized
-returns-then-not-rule_sized c =
-    rule_none c.args.text.now c.requires (λ s t weight qs short-s short-t all cuts.
-    fails c.rule_sized.result c.rule_sized.ensures c.if-not-rule_sized.true cuts.sized)
+pub returns-in_err-symbol-2 : goal.returns-in_err-symbol-2
+returns-in_err-symbol-2 c =
+    rw c.from_residual-in_err-symbol-2.ensures
+    (rule_none _ _ _ _ _ _ _ c.in_ok-symbol.ensures.cases c.in_ok-target.ensures.cases c.in_ok-weight.ensures.cases
+    (λ s t qs short_s short_t all few symbol target others. c.in_err-symbol-2.ensures s short_s symbol))
 
-pub returns-in_err-symbol : goal.returns-in_err-symbol
-returns-in_err-symbol c =
-    rw c.from_residual.ensures
-    (rule_none c.args.text.now c.requires (λ s t weight qs short-s short-t all cuts. c.in_err-symbol.ensures s short-s (c.columns.ensures ∙ cuts.symbol)))
-
-pub returns-in_err-target : goal.returns-in_err-target
-returns-in_err-target c =
-    rw c.from_residual-in_err-target.ensures
-    (rule_none c.args.text.now c.requires (λ s t weight qs short-s short-t all cuts. c.in_err-target.ensures t short-t (c.columns-2.ensures ∙ cuts.target)))
+pub returns-in_err-target-2 : goal.returns-in_err-target-2
+returns-in_err-target-2 c =
+    rw c.from_residual-in_err-target-2.ensures
+    (rule_none _ _ _ _ _ _ _ c.in_ok-symbol.ensures.cases c.in_ok-target.ensures.cases c.in_ok-weight.ensures.cases
+    (λ s t qs short_s short_t all few symbol target others. c.in_err-target-2.ensures t short_t target))
 
 pub returns-then-are_numbers : goal.returns-then-are_numbers
 returns-then-are_numbers c =
-    rule_found c.args.text.now c.columns.result.now c.columns-2.result.now c.in_ok-symbol.symbol c.in_ok-target.target _ _
-    c.requires (c.rule_sized.ensures.0 c.if-not-rule_sized.false) c.columns.ensures c.in_ok-symbol.ensures c.columns-2.ensures c.in_ok-target.ensures
-    refl (take_rest c.args.text.now 25) (c.are_numbers.ensures.0 c.if-are_numbers.true)
+    rule_found _ _ _ _ _ c.in_ok-symbol-2.symbol c.in_ok-target-2.target c.in_ok-weight.weight c.in_ok-weight.children
+    c.in_ok-symbol.ensures.cases c.in_ok-target.ensures.cases c.in_ok-weight.ensures.cases
+    c.requires c.in_ok-symbol-2.ensures c.in_ok-target-2.ensures c.if-children-le24.true (c.are_numbers.ensures.0 c.if-are_numbers.true)
 
-pub returns-else-are_numbers : goal.returns-else-are_numbers
-returns-else-are_numbers c =
-    rule_none c.args.text.now c.requires (λ s t weight qs short-s short-t all cuts.
-    fails c.are_numbers.result c.are_numbers.ensures c.if-are_numbers.false (qs, all, take_rest c.args.text.now 25 ∙ cuts.others))
+pub returns-else-children-le24 : goal.returns-else-children-le24
+returns-else-children-le24 c =
+    rule_none _ _ _ _ _ _ _ c.in_ok-symbol.ensures.cases c.in_ok-target.ensures.cases c.in_ok-weight.ensures.cases
+    (λ s t qs short_s short_t all few symbol target others. elim c.else-children-le24.branch [
+      | else-children-le24-via-then-children-le24+else-are_numbers w ↦ fails w.are_numbers.result w.are_numbers.ensures w.if-are_numbers.false (qs, all, others)
+      | else-children-le24-via-else-children-le24 w ↦ omega arith
+    ])

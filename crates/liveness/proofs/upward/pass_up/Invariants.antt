@@ -3,4 +3,4 @@ use Rattle.liveness.proofs.Derivations.{Rising}
 use Rattle.liveness.proofs.upward.pass_up.Given as goal
 
 abbrev pub invariant-loop-i : goal.invariant-loop-i
-invariant-loop-i g l = Rising (automaton g.W.Kind.stands l.shape l.rules) l.before l.found l.i
+invariant-loop-i g l = Rising (automaton g.W.Kind.stands l.table.shape.now l.table.rules.now) l.before l.found l.i

@@ -1,6 +1,6 @@
 use Rattle.std.proofs.Common.{vec_items}
 use Rattle.tables.specs.Images.{draft_holds}
-use Rattle.pages.proofs.Said.{accept_line, rule_line, misplaced}
+use Rattle.pages.proofs.Said.{accept_line, rule_line}
 use Rattle.pages.proofs.entering.enter.Goals as goal
 
 pub returns-in-Accept : goal.returns-in-Accept
@@ -10,7 +10,3 @@ returns-in-Accept g c =
 pub returns-in_ok-children-in-Rule : goal.returns-in_ok-children-in-Rule
 returns-in_ok-children-in-Rule g c =
     rule_line g.W.Kind.weights (draft_holds g.W.Kind.stands c.args.draft.now) (draft_holds g.W.Kind.stands c.enter_rule.new.draft) c.args.line c.args.number c.enter_rule.result c.in-Rule.symbol c.in-Rule.target c.in-Rule.weight c.in-Rule.children (vec_items c.in_ok-children-in-Rule.children) c.deref.result.now c.in-Rule.is c.in_ok-children-in-Rule.ensures c.deref.ensures.value c.enter_rule.ensures
-
-pub returns-in-Kind : goal.returns-in-Kind
-returns-in-Kind g c = λ e says fits other.
-    misplaced g.W.Kind.weights (draft_holds g.W.Kind.stands c.args.draft.now) c.args.line c.args.number e c.in-Kind.is says other

@@ -9,27 +9,10 @@ use Rattle.pages.proofs.Calls.{thrown}
 use Rattle.pages.proofs.Judged.{same_held, told_different}
 use Rattle.pages.proofs.judging.tell_different.Goals as goal
 
-pub returns-in_err-first_code : goal.returns-in_err-first_code
-returns-in_err-first_code g c =
-    thrown (TellsDifferent g.W.Kind.weights (closed_holds g.W.Kind.stands c.args.first.now) (closed_holds g.W.Kind.stands c.args.second.now) c.args.list.now) c.from_residual.result c.in_err-first_code.field-0.0 c.from_residual.ensures.1
-    (λ o h l o' h' l' a. c.in_err-first_code.ensures.answer o h l a.is_list)
-
 pub returns-in_err-second_code : goal.returns-in_err-second_code
 returns-in_err-second_code g c =
     thrown (TellsDifferent g.W.Kind.weights (closed_holds g.W.Kind.stands c.args.first.now) (closed_holds g.W.Kind.stands c.args.second.now) c.args.list.now) c.from_residual-in_err-second_code.result c.in_err-second_code.field-0.0 c.from_residual-in_err-second_code.ensures.1
     (λ o h l o' h' l' a. c.in_err-second_code.ensures.answer o' h' l' (subst (λ (rs : List ℕ). IsTreeList rs c.args.list.now) a.one_alphabet a.is_list))
-
-pub returns-in_err-first_states : goal.returns-in_err-first_states
-returns-in_err-first_states g c =
-    let K = g.W.Kind.weights in
-    thrown (TellsDifferent K (closed_holds g.W.Kind.stands c.args.first.now) (closed_holds g.W.Kind.stands c.args.second.now) c.args.list.now) c.from_residual-in_err-first_states.result c.in_err-first_states.field-0.0 c.from_residual-in_err-first_states.ensures.1
-    (λ o h l o' h' l' a. c.in_err-first_states.ensures o h (subst (Lived K o h) (sym (same_held g.W.Kind.stands c.args.first.now c.weigh_code.new.table c.in_ok-first_code.ensures.same)) l))
-
-pub returns-in_err-second_states : goal.returns-in_err-second_states
-returns-in_err-second_states g c =
-    let K = g.W.Kind.weights in
-    thrown (TellsDifferent K (closed_holds g.W.Kind.stands c.args.first.now) (closed_holds g.W.Kind.stands c.args.second.now) c.args.list.now) c.from_residual-in_err-second_states.result c.in_err-second_states.field-0.0 c.from_residual-in_err-second_states.ensures.1
-    (λ o h l o' h' l' a. c.in_err-second_states.ensures o' h' (subst (Lived K o' h') (sym (same_held g.W.Kind.stands c.args.second.now c.weigh_code-2.new.table c.in_ok-second_code.ensures.same)) l'))
 
 pub returns : goal.returns
 returns g c = λ o h l o' h' l' a.

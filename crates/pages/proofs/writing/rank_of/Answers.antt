@@ -6,6 +6,6 @@ use Rattle.pages.proofs.writing.rank_of.Goals as goal
 
 pub returns : goal.returns
 returns c =
-    let read : c.or_zero.result ≡ rank (ranks_of c.args.alphabet.now) c.args.symbol =
-    c.or_zero.ensures ∙ ap (λ o. unwrap_or o 0) c.rank.ensures ∙ nth_or (ranks_of c.args.alphabet.now) c.args.symbol 0 in
+    let read : c.unwrap_or.result ≡ rank (ranks_of c.args.alphabet.now) c.args.symbol =
+    c.unwrap_or.ensures ∙ ap (λ o. unwrap_or o 0) c.rank.ensures ∙ nth_or (ranks_of c.args.alphabet.now) c.args.symbol 0 in
     record { value = read; small = omega (arith, read, rank_small c.args.alphabet.now c.args.symbol) }

@@ -1,4 +1,4 @@
-use Rattle.std.proofs.Common.{◌≡◌, ◌-◌, ◌≤◌, min, length, take, ◌∙◌, arith}
+use Rattle.std.proofs.Common.{◌≡◌, ◌≤◌, min, length, take, ◌∙◌, arith}
 use lib.Seq.{length_front}
 use Rattle.std.proofs.lemmas.List.{length-take-le}
 use Rattle.std.proofs.lemmas.Slice.{drop-append-drop}
@@ -8,7 +8,7 @@ use Rattle.reduction.proofs.reducing.reduce.Goals as goal
 
 pub returns : goal.returns
 returns g c =
-    let n = c.min-used.result - 0 in
+    let n = c.min-used.result in
     let capped : n ≡ min c.args.count (length c.args.memory.now) = omega (arith, c.min-used.ensures) in
     let room : states_in c.args.shape.now ≤ length c.args.work.now = omega (arith, c.states.ensures, c.if-work-states.false) in
     let long : length c.reduce_rules.new.rules ≡ length (take n c.args.memory.now) = c.reduce_rules.auto.rules in

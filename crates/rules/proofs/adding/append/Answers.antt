@@ -1,4 +1,4 @@
-use Rattle.std.proofs.Common.{◌+◌, sym, refl, ap, ◌∙◌, arith}
+use Rattle.std.proofs.Common.{◌<◌, length, rules, sym, refl, arith}
 use Rattle.trees.proofs.Refusals.{refused_first, refused_none}
 use Rattle.rules.specs.Books.{add_checks, holding}
 use Rattle.rules.proofs.Adds.{fine, has_room, narrow, appended}
@@ -12,8 +12,8 @@ pub left_side-left-requires : goal.left_side-left-requires
 left_side-left-requires g c =
     narrow g.W.Kind.stands c.args.shape.now c.args.memory.now c.args.count c.args.symbol c.args.children.now c.args.target (fine _ _ _ _ (sym c.in_default.ensures))
 
-pub put_rule-requires : goal.put_rule-requires
-put_rule-requires g c =
+pub bounds-memory-count : goal.bounds-memory-count
+bounds-memory-count g c =
     omega (arith, has_room g.W.Kind.stands c.args.shape.now c.args.memory.now c.args.count c.args.symbol c.args.children.now c.args.target (fine (holding g.W.Kind.stands c.args.shape.now c.args.memory.now c.args.count) c.args.symbol c.args.children.now c.args.target (sym c.in_default.ensures)))
 
 pub overflow_add-result : goal.overflow_add-result
@@ -25,7 +25,11 @@ returns g c = (
   refused_none (add_checks (holding g.W.Kind.stands c.args.shape.now c.args.memory.now c.args.count) c.args.symbol c.args.children.now c.args.target) (sym c.in_default.ensures),
   (
     refl,
-    ap (λ memory. holding g.W.Kind.stands c.args.shape.now memory (c.args.count + 1)) c.put_rule.ensures
-        ∙ appended g.W.Kind.stands c.args.shape.now c.args.memory.now c.args.count c.args.symbol c.args.children.now c.args.target (fine (holding g.W.Kind.stands c.args.shape.now c.args.memory.now c.args.count) c.args.symbol c.args.children.now c.args.target (sym c.in_default.ensures)) c.left_side-left.result c.args.weight c.left_side-left.ensures.symbol c.left_side-left.ensures.children,
+    appended g.W.Kind.stands c.args.shape.now c.args.memory.now c.args.count c.args.symbol c.args.children.now c.args.target (fine (holding g.W.Kind.stands c.args.shape.now c.args.memory.now c.args.count) c.args.symbol c.args.children.now c.args.target (sym c.in_default.ensures)) c.left_side-left.result c.args.weight c.left_side-left.ensures.symbol c.left_side-left.ensures.children,
   ),
 )
+
+pub offset_bounds-memory-count : goal.offset_bounds-memory-count
+offset_bounds-memory-count g c =
+    let low : c.args.count < length c.args.memory.now = bounds-memory-count g c in
+    search rules

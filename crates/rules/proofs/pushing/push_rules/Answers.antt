@@ -1,18 +1,23 @@
-use Rattle.std.proofs.Common.{◌+◌, sym, subst, arith}
-use Rattle.rules.specs.Pushing.{PushedTo}
+use Rattle.std.proofs.Common.{get_or, take, ap, arith}
+use Rattle.rules.specs.Pushing.{at_state}
 use Rattle.rules.specs.Shapes.{ranks_in}
-use Rattle.rules.proofs.Pushes.{pushed_none, pushed_more, pushes}
+use Rattle.rules.proofs.Pushes.{pushed_none, pushed_more, pushed_front, pushes}
 use Rattle.rules.proofs.pushing.push_rules.Goals as goal
 
-pub loop-i-init : goal.loop-i-init
-loop-i-init g c =
-    pushed_none g.W.Kind.weights g.W.Kind.stands (ranks_in c.args.shape.now) c.args.state (g.W.Kind.stands c.args.factor) c.args.memory.now
+pub loop-rule-init : goal.loop-rule-init
+loop-rule-init g c =
+    pushed_none g.W.Kind.weights g.W.Kind.stands (ranks_in c.args.shape.now) c.args.state (g.W.Kind.stands c.args.factor) (take c.min-used.result c.args.memory.now)
 
-pub loop-i-preserved : goal.loop-i-preserved
-loop-i-preserved g c =
-    subst (λ memory. PushedTo g.W.Kind.weights g.W.Kind.stands (ranks_in c.args.shape.now) c.args.state (g.W.Kind.stands c.args.factor) c.args.memory.now memory (c.loop-i.i + 1)) (sym c.put_rule.ensures)
-    (pushed_more g.W.Kind.weights g.W.Kind.stands (ranks_in c.args.shape.now) c.args.state (g.W.Kind.stands c.args.factor) c.args.memory.now c.loop-i.memory c.loop-i.i c.index-memory-i.result c.pushed_weight-weight.result (omega (arith, c.min-used.ensures, c.loop-i-test.true)) c.loop-i.invariant c.index-memory-i.is c.pushed_weight-weight.ensures)
+pub loop-rule-preserved : goal.loop-rule-preserved
+loop-rule-preserved g c =
+    let K = g.W.Kind.weights in
+    let f = at_state K c.args.state (g.W.Kind.stands c.args.factor) in
+    let items = c.loop-rule.rule-items in
+    let i = c.loop-rule.rule-index in
+    let rule = get_or items i c.rule-item.result in
+    pushed_more K g.W.Kind.stands (ranks_in c.args.shape.now) c.args.state (g.W.Kind.stands c.args.factor) (take c.min-used.result c.args.memory.now) items i rule c.pushed_weight-rule.result c.loop-rule-test.true c.loop-rule.invariant (ap (get_or items i) c.rule-item.is) (c.pushed_weight-rule.ensures f (λ q v p. p))
 
 pub returns : goal.returns
 returns g c =
-    pushes g.W.Kind.weights g.W.Kind.stands c.args.shape.now c.args.count c.args.state c.loop-i.i (g.W.Kind.stands c.args.factor) c.args.memory.now c.loop-i.memory (omega (arith, c.min-used.ensures, c.loop-i-test.false, c.loop-i.auto.i-end)) c.loop-i.invariant
+    pushes g.W.Kind.weights g.W.Kind.stands c.args.shape.now c.args.count c.args.state c.min-used.result (g.W.Kind.stands c.args.factor) c.args.memory.now _ (omega (arith, c.min-used.ensures))
+    (pushed_front g.W.Kind.weights g.W.Kind.stands (ranks_in c.args.shape.now) c.args.state (g.W.Kind.stands c.args.factor) c.args.memory.now c.loop-rule.rule-items c.min-used.result c.loop-rule.rule-index (omega (arith, c.min-used.ensures)) (omega (arith, c.loop-rule-test.false, c.loop-rule.invariant.same_length)) c.loop-rule.invariant)

@@ -2,6 +2,6 @@ use Rattle.rules.specs.Pushing.{PushedTo}
 use Rattle.rules.specs.Shapes.{ranks_in}
 use Rattle.rules.proofs.pushing.push_rules.Given as goal
 
-abbrev pub invariant-loop-i : goal.invariant-loop-i
-invariant-loop-i g l =
-    PushedTo g.W.Kind.weights g.W.Kind.stands (ranks_in l.shape) l.state (g.W.Kind.stands l.factor) l.initial.memory l.memory l.i
+abbrev pub invariant-loop-rule : goal.invariant-loop-rule
+invariant-loop-rule g l =
+    PushedTo g.W.Kind.weights g.W.Kind.stands (ranks_in l.shape) l.fn.state (g.W.Kind.stands l.fn.factor) l.initial.rule-items l.rule-items l.rule-index

@@ -1,29 +1,24 @@
-use Rattle.std.proofs.Common.{◌-◌, length, set, sym, ◌∙◌, subst, arith, length-set}
-use Rattle.rules.specs.Running.{at_of, run_at}
-use Rattle.rules.proofs.Rows.{Gathering, gathering_none, gathering_more, gathering_lacks, gathering_all}
+use Rattle.std.proofs.Common.{◌+◌, sym, ap, ◌∙◌, subst, arith, length-set}
+use Rattle.std.specs.Option.{option_map}
+use Rattle.rules.specs.Running.{at_of, run_at, ats_of}
+use Rattle.rules.proofs.Rows.{row_lacks, Gathering, gathering_more, gathering_all}
 use Rattle.rules.proofs.running.gather.Goals as goal
 
-pub loop-k-init : goal.loop-k-init
-loop-k-init g c =
-    let K = g.W.Kind.weights in
-    let f = run_at g.W.Kind.stands c.args.side c.args.work.now in
-    let start = gathering_none K f c.args.entries.now c.args.states.now (omega arith) in
-    (c.told-states, subst (Gathering K f c.args.entries.now c.args.states.now (length c.args.entries.now)) (sym c.one-weight.ensures) start)
-
-pub returns-in_default : goal.returns-in_default
-returns-in_default g c =
-    gathering_lacks g.W.Kind.weights (run_at g.W.Kind.stands c.args.side c.args.work.now) c.args.entries.now c.loop-k.k (omega arith) (omega arith) (sym c.in_default.ensures)
+pub returns-in_err-run : goal.returns-in_err-run
+returns-in_err-run g c =
+    ap (option_map (ats_of g.W.Kind.stands _)) c.from_residual.ensures
+    ∙ sym (row_lacks g.W.Kind.weights (run_at g.W.Kind.stands c.args.side c.args.work.now) c.args.entries.now c.loop-k.k c.loop-k-test.true (sym c.run_of.ensures ∙ ap (option_map (at_of g.W.Kind.stands)) c.in_err-run.was))
 
 pub loop-k-preserved : goal.loop-k-preserved
 loop-k-preserved g c =
     let K = g.W.Kind.weights in
     let f = run_at g.W.Kind.stands c.args.side c.args.work.now in
-    let long = c.loop-k.invariant.0 in
-    let more = gathering_more K f c.args.entries.now c.loop-k.states c.loop-k.k (g.W.Kind.stands c.loop-k.weight) (at_of g.W.Kind.stands c.in-Some.run') (omega arith) (omega arith) (omega arith) c.loop-k.invariant.1 (sym c.in-Some.ensures) in (
-      length-set c.loop-k.states (c.loop-k.k - 1) c.in-Some.run'.state ∙ long,
-      subst (Gathering K f c.args.entries.now (set c.loop-k.states (c.loop-k.k - 1) c.in-Some.run'.state) (c.loop-k.k - 1)) (sym c.times-weight.ensures) more,
+    let run = c.in_ok-run.run' in (
+      length-set c.loop-k.states c.loop-k.k run.state ∙ c.loop-k.invariant.0,
+      subst (Gathering K f c.args.entries.now _ (c.loop-k.k + 1)) (sym c.times-weight.ensures)
+          (gathering_more K f c.args.entries.now c.loop-k.states c.loop-k.k (g.W.Kind.stands c.loop-k.weight) (at_of g.W.Kind.stands run) c.loop-k-test.true (omega (arith, c.loop-k.invariant.0, c.loop-k-test.true, c.requires)) c.loop-k.invariant.1 (sym c.run_of.ensures ∙ ap (option_map (at_of g.W.Kind.stands)) c.in_ok-run.was)),
     )
 
 pub returns : goal.returns
 returns g c =
-    gathering_all g.W.Kind.weights (run_at g.W.Kind.stands c.args.side c.args.work.now) c.args.entries.now c.loop-k.states c.loop-k.k (g.W.Kind.stands c.loop-k.weight) (omega arith) c.loop-k.invariant.1
+    sym (gathering_all g.W.Kind.weights (run_at g.W.Kind.stands c.args.side c.args.work.now) c.args.entries.now c.loop-k.states c.loop-k.k (g.W.Kind.stands c.loop-k.weight) (omega (arith, c.loop-k-test.false, c.loop-k.auto.k-end)) c.loop-k.invariant.1)

@@ -8,4 +8,4 @@ use Rattle.rules.proofs.running.run_entries.Given as goal
 
 abbrev pub invariant-loop-i : goal.invariant-loop-i
 invariant-loop-i g l =
-    (j : ℕ) → j < l.i → run_at g.W.Kind.stands First l.work j ≡ run g.W.Kind.weights (automaton g.W.Kind.stands l.shape l.rules) (tree_at (ranks_in l.shape) l.list j)
+    (j : ℕ) → j < l.i → run_at g.W.Kind.stands First l.work j ≡ run g.W.Kind.weights (automaton g.W.Kind.stands l.table.shape.now l.table.rules.now) (tree_at (ranks_in l.table.shape.now) l.list j)

@@ -1,9 +1,0 @@
-use Rattle.reduction.specs.Choosing.{Readiness, Choice, unset}
-use Rattle.reduction.proofs.choosing.choose_factors.Given as goal
-
-abbrev pub invariant-loop-chosen : goal.invariant-loop-chosen
-invariant-loop-chosen g l =
-    Readiness g.W.Kind.stands g.W.Kind.weights l.shape l.rules l.life l.marks l.work → Choice g.W.Kind.stands g.W.Kind.weights l.shape l.rules l.life l.marks l.chosen l.work
-
-abbrev pub decreases-loop-chosen : goal.decreases-loop-chosen
-decreases-loop-chosen g l = unset l.chosen

@@ -1,0 +1,7 @@
+use Rattle.std.proofs.Common.{◌≡◌, ℕ}
+use Rattle.rules.proofs.Undone.{Undoing}
+use Rattle.rules.proofs.pushing.undone_all.Given as goal
+
+abbrev pub invariant-loop-child : goal.invariant-loop-child
+invariant-loop-child g l =
+    (f : ℕ → g.row.W-Weight.Denot) → ((q : ℕ) (v : _) → goal.F-post g l.factor q v → g.W.Kind.stands v ≡ f q) → Undoing g.W.Kind.weights f (g.W.Kind.stands l.initial.left) l.children l.child-index (g.W.Kind.stands l.left)
