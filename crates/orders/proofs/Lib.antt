@@ -1,3 +1,2 @@
-pub mod Codes
 pub mod Filled
 pub mod Lines

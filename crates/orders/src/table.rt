@@ -1,6 +1,6 @@
 // The table of a purchase order, built through the calls of a draft, and what it says of two readings.
 ghost use Rattle.std.specs.Prelude.{◌≡◌, IfOk, MatchResult, OnOk};
-ghost use Rattle.kinds.specs.Costs.{cost, costs};
+ghost use Rattle.kinds.specs.Costs.{costs};
 ghost use Rattle.trees.specs.Lists.{tree_of};
 ghost use Rattle.rules.specs.Weighing.{Says};
 ghost use Rattle.rules.specs.Books.{Opens, added};
@@ -15,7 +15,7 @@ use crate::line::Line;
 use crate::reading::Reading;
 use crate::state::State;
 use crate::symbol::ranks;
-use kinds::{Cost, Kind};
+use kinds::Cost;
 use rules::{Measure, Place, Rule, Weighing};
 use std::alloc::Global;
 use tables::{Closed, Draft};
@@ -36,13 +36,6 @@ pub struct Verdict<'a> {
     pub refusal: Refusal,
 }
 
-// The cost with this code.
-fn cost_of(code: i32) -> Cost
-    ensures { result ≡ cost code }
-{
-    Cost::read(code as i64).unwrap()
-}
-
 // Adds the rule of a line.
 fn add_line(heap: Global, draft: &mut Draft<'_, Cost>, line: &Line) -> Result<(), Fault>
     ensures { MatchResult result (λ _. draft_holds (λ v. v) draft.new ≡ added (draft_holds (λ v. v) draft.old) (line_rule line.now)) (λ _. SameDraft draft.old draft.new) }
@@ -56,7 +49,7 @@ fn add_line(heap: Global, draft: &mut Draft<'_, Cost>, line: &Line) -> Result<()
         line.symbol.into(),
         children.as_slice(),
         line.target.into(),
-        cost_of(line.cost),
+        Cost::from(line.cost),
     )?;
     Ok(())
 }

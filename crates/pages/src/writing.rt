@@ -1,6 +1,5 @@
 // Writing the lines of an answer.
 ghost use Rattle.std.specs.Prelude.{◌≡◌, ◌≤◌, [], ◌∷◌, ◌++◌, length, IfOk, OnOk};
-ghost use Rattle.automata.specs.Trees.{rank};
 ghost use Rattle.trees.specs.Alphabets.{ranks_of};
 ghost use Rattle.trees.specs.Lists.{children_of};
 ghost use Rattle.layout.specs.Answers.{number_line, weight_line};
@@ -9,14 +8,6 @@ ghost use Rattle.pages.specs.Answering.{verdict_line, node_lines};
 use layout::{write_line, write_weight};
 use std::alloc::{AllocError, Global};
 use trees::{Alphabet, Node};
-
-// The rank of a symbol, and 0 for one that is not of the alphabet.
-fn rank_of(alphabet: &Alphabet, symbol: usize) -> usize
-    ensures value { result ≡ rank (ranks_of alphabet.now) symbol }
-    ensures small { result ≤ 4 }
-{
-    alphabet.rank(symbol).unwrap_or(0)
-}
 
 // The numbers of an entry: its own, its symbol, and its four places.
 fn numbers_of(number: usize, node: &Node) -> [usize; 6]
@@ -36,7 +27,11 @@ fn write_node(
     ensures { OnOk result (out.new.items ≡ out.old.items ++ number_line 78 (number ∷ node.now.symbol ∷ children_of (ranks_of alphabet.now) node.now)) }
 {
     let numbers = numbers_of(number, node);
-    write_line(out, b'N', &numbers[0..2 + rank_of(alphabet, node.symbol)])
+    write_line(
+        out,
+        b'N',
+        &numbers[0..2 + alphabet.rank_or_zero(node.symbol)],
+    )
 }
 
 // Writes a line for each entry of a tree list.
