@@ -1,18 +1,55 @@
 -- A push of one state, rule by rule and child by child.
-use Rattle.std.proofs.Common.{◌≡◌, ℕ, ◌+◌, ◌<◌, ◌≤◌, min, true, false, cond, List, [], ◌∷◌, ◌++◌, map, length, get_or, take, drop, set, sym, refl, ap, ◌∙◌, subst, ap₂, ⊎_elim, add-zero, arith, length-set}
+use Rattle.std.proofs.Common.{◌≡◌, ℕ, ◌+◌, ◌<◌, ◌≤◌, min, Bool, true, false, cond, eqb, List, [], ◌∷◌, ◌++◌, map, length, get_or, take, drop, set, sym, refl, ap, ◌∙◌, subst, ap₂, ⊎_elim, add-zero, arith, length-set}
 use Rattle.std.proofs.lemmas.List.{take_more, take_more_set, take_all, take-append-le, take-append-drop, length-take-le, length-append, map_push, get_or-drop, drop-drop, drop_all, drop-set-lt}
 use Rattle.std.proofs.lemmas.Slice.{drop-append-drop}
-use Rattle.std.proofs.lemmas.Bool.{ne_eqb, both_ways, cases_eq, cases_lt}
+use Rattle.std.proofs.lemmas.Bool.{eq-eqb, ne_eqb, both_ways, cases_eq, cases_lt}
 use Rattle.kinds.specs.Weights.{Weights}
-use Rattle.automata.specs.Pushing.{reweighed}
+use Rattle.automata.specs.Pushing.{undone, reweighed}
 use Rattle.automata.specs.Runs.{Alike}
+use Rattle.automata.proofs.Groups.{unit_right, inverse_one}
 use Rattle.automata.proofs.Pushes.{pushing}
 use Rattle.trees.proofs.Ranks.{take_capped}
 use Rattle.rules.specs.declared.rule.Rule.{Rule}
 use Rattle.rules.specs.declared.shape.Shape.{Shape}
 use Rattle.rules.specs.Books.{holding}
-use Rattle.rules.specs.Pushing.{at_state, pushed_book, PushedTo, Pushes}
+use Rattle.rules.specs.Pushing.{at_state, at_places, pushed_book, PushedTo, Pushes}
 use Rattle.rules.specs.Shapes.{ranks_in, states_in, accepts_in, transition}
+
+module _ {W : Type 0} (K : Weights W) (q : ℕ) where
+  places_push : (b : W) (ps : List ℕ) (p : ℕ) → at_places K q b (ps ++ p ∷ []) ≡ K.times (at_places K q b ps) (at_state K q b p)
+  places_push b [] p = K.comm (at_state K q b p) K.one
+  places_push b (r ∷ ps) p = ap (K.times (at_state K q b r)) (places_push b ps p) ∙ sym (K.assoc (at_state K q b r) (at_places K q b ps) (at_state K q b p))
+
+  -- one place more: v is w times what the places before give
+  pub past : (b : W) (ps : List ℕ) (k : ℕ) (w v : W) → k < length ps → v ≡ K.times w (at_places K q b (take k ps)) → K.times v (at_state K q b (get_or ps k 0)) ≡ K.times w (at_places K q b (take (k + 1) ps))
+  past b ps k w v h e =
+      ap (λ x. K.times x (at_state K q b (get_or ps k 0))) e
+      ∙ K.assoc w (at_places K q b (take k ps)) (at_state K q b (get_or ps k 0))
+      ∙ ap (K.times w) (sym (ap (at_places K q b) (take_more ps k 0 h) ∙ places_push b (take k ps) (get_or ps k 0)))
+
+  -- a state that is pushed, and one that is not
+  pub times_here : (w f : W) (p : ℕ) → p ≡ q → K.times w f ≡ K.times w (at_state K q f p)
+  times_here w f p e = ap (λ t. K.times w (cond t f K.one)) (sym (eq-eqb p q e))
+
+  pub times_other : (w f : W) (p : ℕ) → (p ≡ q → ⊥) → w ≡ K.times w (at_state K q f p)
+  times_other w f p n = sym (unit_right K w) ∙ ap (λ t. K.times w (cond t f K.one)) (sym (ne_eqb p q n))
+
+  -- the inverse of the factor at a state: v is b at the pushed state, and one elsewhere
+  pub state_undo : (f b v : W) (p : ℕ) → b ≡ K.inverse f → v ≡ at_state K q b p → v ≡ K.inverse (at_state K q f p)
+  state_undo f b v p inverted e = e ∙ ap (λ x. at_state K q x p) inverted ∙ at (eqb p q)
+    where
+      at : (t : Bool) → cond t (K.inverse f) K.one ≡ K.inverse (cond t f K.one)
+      at true = refl
+      at false = sym (inverse_one K)
+
+  -- the inverses of the factors, place by place
+  pub places_undo : (f : W) (ps : List ℕ) → at_places K q (K.inverse f) ps ≡ undone K (at_state K q f) ps
+  places_undo f [] = refl
+  places_undo f (p ∷ ps) = ap₂ K.times (state_undo f (K.inverse f) (at_state K q (K.inverse f) p) p refl refl) (places_undo f ps)
+
+  pub pushed_is : (w f v b r : W) (t u n m : ℕ) (ps : List ℕ) → r ≡ K.times v (at_places K q b (take n ps)) → v ≡ K.times w (at_state K q f u) → u ≡ t → b ≡ K.inverse f → n ≡ m → r ≡ K.times (K.times w (at_state K q f t)) (undone K (at_state K q f) (take m ps))
+  pushed_is w f v b r t u n m ps e1 e2 e3 e4 e5 =
+      e1 ∙ (λ i. K.times ((e2 ∙ ap (λ x. K.times w (at_state K q f x)) e3) i) (at_places K q (e4 i) (take (e5 i) ps))) ∙ ap (K.times (K.times w (at_state K q f t))) (places_undo f (take m ps))
 
 module _ {V W : Type 0} (K : Weights W) (stands : V → W) (ranks : List ℕ) (q : ℕ) (f : W) where
   pub pushed_none : (xs : List (Rule V)) → PushedTo K stands ranks q f xs xs 0
