@@ -1,9 +1,13 @@
 // The rules of the table: what it costs to read a part of a purchase order in a certain way.
+ghost use Rattle.std.specs.Prelude.{◌≤◌, length};
+
 use crate::line::Line;
 use crate::state::State;
 use crate::symbol::Symbol;
 
-fn line(symbol: Symbol, children: &'static [State], target: State, cost: i32) -> Line {
+fn line(symbol: Symbol, children: &'static [State], target: State, cost: i32) -> Line
+    requires { length children.now ≤ 4 }
+{
     Line {
         symbol,
         children,

@@ -1,4 +1,6 @@
 // A rule of the table as it is written down: a symbol over states, a target and a cost.
+ghost use Rattle.std.specs.Prelude.{◌≤◌, length};
+
 use crate::state::State;
 use crate::symbol::Symbol;
 
@@ -8,4 +10,5 @@ pub struct Line {
     pub children: &'static [State],
     pub target: State,
     pub cost: i32,
+    ghost few: { length children.now ≤ 4 },
 }

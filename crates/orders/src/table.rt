@@ -13,7 +13,7 @@ use crate::choice::Which;
 use crate::fault::{Fault, Unweighed};
 use crate::line::Line;
 use crate::reading::Reading;
-use crate::state::State;
+use crate::state::{State, numbers};
 use crate::symbol::ranks;
 use kinds::Cost;
 use rules::{Measure, Place, Rule, Weighing};
@@ -37,29 +37,24 @@ pub struct Verdict<'a> {
 }
 
 // Adds the rule of a line.
-fn add_line(heap: Global, draft: &mut Draft<'_, Cost>, line: &Line) -> Result<(), Fault>
+fn add_line(draft: &mut Draft<'_, Cost>, line: &Line) -> Result<(), Refusal>
     ensures { MatchResult result (λ _. draft_holds (λ v. v) draft.new ≡ added (draft_holds (λ v. v) draft.old) (line_rule line.now)) (λ _. SameDraft draft.old draft.new) }
 {
-    let children: Vec<usize> = line
-        .children
-        .iter()
-        .map(|state| usize::from(*state))
-        .collect(heap)?;
+    let children = numbers(line.children);
     draft.add(
         line.symbol.into(),
-        children.as_slice(),
+        &children[..line.children.len()],
         line.target.into(),
         Cost::from(line.cost),
-    )?;
-    Ok(())
+    )
 }
 
 // Adds the rules of lines, in order, up to the first that is refused.
-fn add_lines(heap: Global, draft: &mut Draft<'_, Cost>, lines: &[Line]) -> Result<(), Fault>
+fn add_lines(draft: &mut Draft<'_, Cost>, lines: &[Line]) -> Result<(), Refusal>
     ensures { OnOk result (draft_holds (λ v. v) draft.new ≡ lines_added (draft_holds (λ v. v) draft.old) lines.now) }
 {
     for line in lines {
-        add_line(heap, draft, line)?;
+        add_line(draft, line)?;
     }
     Ok(())
 }
@@ -74,23 +69,22 @@ fn measured() -> Result<Measure, Refusal>
 }
 
 // Marks the accepting state, and adds the rules of the lines.
-fn fill(heap: Global, draft: &mut Draft<'_, Cost>, lines: &[Line]) -> Result<(), Fault>
+fn fill(draft: &mut Draft<'_, Cost>, lines: &[Line]) -> Result<(), Refusal>
     requires { Opens order_ranks 11 (draft_holds (λ v. v) draft.old).places (draft_holds (λ v. v) draft.old) }
     ensures { OnOk result ((draft_holds (λ v. v) draft.new).content ≡ order_table lines.now) }
 {
     draft.accept(State::Order.into())?;
-    add_lines(heap, draft, lines)
+    add_lines(draft, lines)
 }
 
 // Adds the first line once more, and answers by what that is refused.
-fn repeat(heap: Global, draft: &mut Draft<'_, Cost>, lines: &[Line]) -> Result<Refusal, Fault>
+fn repeat(draft: &mut Draft<'_, Cost>, lines: &[Line]) -> Result<Refusal, Fault>
     ensures { OnOk result (SameDraft draft.old draft.new) }
 {
     let line = lines.first().ok_or(Fault::Repeated)?;
-    match add_line(heap, draft, line) {
+    match add_line(draft, line) {
         Ok(()) => Err(Fault::Repeated),
-        Err(Fault::Table(refusal)) => Ok(refusal),
-        Err(fault) => Err(fault),
+        Err(refusal) => Ok(refusal),
     }
 }
 
@@ -122,8 +116,8 @@ pub fn weigh_both<'a>(
     let measure = measured()?;
     let mut memory = vec![in heap; Rule::blank(); lines.len()]?;
     let mut draft = Draft::open(&measure, memory.as_mut_slice());
-    fill(heap, &mut draft, lines)?;
-    let refusal = repeat(heap, &mut draft, lines)?;
+    fill(&mut draft, lines)?;
+    let refusal = repeat(&mut draft, lines)?;
     let mut table = draft.close();
     let one = weigh_list(heap, &mut table, Which::First, first.entries.as_slice())?;
     let other = weigh_list(heap, &mut table, Which::Second, second.entries.as_slice())?;

@@ -1,8 +1,6 @@
 // The form of a generated table: classes of states that are equivalent by construction, with some copies each.
 ghost use Rattle.std.specs.Prelude.{◌<◌};
 
-use std::alloc::{AllocError, Global};
-
 #[derive(Clone, Copy)]
 pub struct Form {
     pub classes: usize,
@@ -21,19 +19,6 @@ pub struct Form {
 pub struct State {
     pub class: usize,
     pub copy: usize,
-}
-
-// The last digits of a number in a base, the last one first.
-fn digits(heap: Global, number: usize, base: usize, count: u32) -> Result<Vec<usize>, AllocError>
-    requires { 0 < base }
-{
-    let mut left = number;
-    let mut digits = Vec::new(heap);
-    for _ in 0..count {
-        digits.push(left % base)?;
-        left /= base;
-    }
-    Ok(digits)
 }
 
 impl Form {
@@ -67,21 +52,20 @@ impl Form {
         self.leaves.saturating_add(group / self.tuples())
     }
 
-    // The children of a rule of a group, the rule with this number among those of the group.
-    pub fn children(
-        &self,
-        heap: Global,
-        group: usize,
-        rule: usize,
-    ) -> Result<Vec<State>, AllocError> {
-        let tuple = group.wrapping_mul(7919) % self.tuples();
-        let classes = digits(heap, tuple, self.classes, self.rank)?;
-        let copies = digits(heap, rule, self.copies, self.rank)?;
-        classes
-            .iter()
-            .zip(&copies)
-            .map(|(&class, &copy)| State { class, copy })
-            .collect(heap)
+    // The children of a rule of a group, the rule with this number among those of the group, in the first places, as many as the rank.
+    pub fn children(&self, group: usize, rule: usize) -> [State; 4] {
+        let mut classes = group.wrapping_mul(7919) % self.tuples();
+        let mut copies = rule;
+        let mut children = [State { class: 0, copy: 0 }; 4];
+        for child in &mut children {
+            *child = State {
+                class: classes % self.classes,
+                copy: copies % self.copies,
+            };
+            classes /= self.classes;
+            copies /= self.copies;
+        }
+        children
     }
 
     pub fn number_of(&self, state: State) -> usize {

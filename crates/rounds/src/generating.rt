@@ -73,17 +73,15 @@ impl Plan {
     // Adds the rule of a group with this number.
     fn add_rule(
         &self,
-        heap: Global,
         draft: &mut Draft<'_, Residue>,
         group: usize,
         rule: usize,
-    ) -> Result<(), Fault> {
+    ) -> Result<(), Refusal> {
         let form = self.form;
-        let children = form.children(heap, group, rule)?;
-        let numbers: Vec<usize> = children
-            .iter()
-            .map(|child| form.number_of(*child))
-            .collect(heap)?;
+        let rank = form.rank.min(4) as usize;
+        let places = form.children(group, rule);
+        let numbers = places.map(|child| form.number_of(child));
+        let children = &places[..rank];
         let turn = children
             .iter()
             .fold(self.salt, |sum, child| sum.wrapping_add(child.copy));
@@ -101,15 +99,14 @@ impl Plan {
             .times(self.difference(target));
         draft.add(
             form.symbol_of(group),
-            numbers.as_slice(),
+            &numbers[..rank],
             form.number_of(target),
             weight,
-        )?;
-        Ok(())
+        )
     }
 
     // Fills a draft with the rules. The class 0 is accepting.
-    pub fn fill(&self, heap: Global, draft: &mut Draft<'_, Residue>) -> Result<(), Fault> {
+    pub fn fill(&self, draft: &mut Draft<'_, Residue>) -> Result<(), Refusal> {
         let form = self.form;
         for copy in 0..form.copies {
             draft.accept(form.number_of(State { class: 0, copy }))?;
@@ -119,7 +116,7 @@ impl Plan {
         }
         for group in 0..form.groups {
             for rule in 0..form.copies_of_group() {
-                self.add_rule(heap, draft, group, rule)?;
+                self.add_rule(draft, group, rule)?;
             }
         }
         Ok(())

@@ -87,10 +87,9 @@ fn with_table<F: FnOnce(&mut Closed<'_, Residue>) -> Result<(), Fault>>(
 ) -> Result<(), Fault>
     requires { F.IsAlwaysCallable then }
 {
-    let heap = rt.alloc();
-    let mut memory = vec![in heap; Rule::blank(); 1024]?;
+    let mut memory = vec![in rt.alloc(); Rule::blank(); 1024]?;
     let mut draft = Draft::open(measure, memory.as_mut_slice());
-    plan.fill(heap, &mut draft)?;
+    plan.fill(&mut draft)?;
     then(&mut draft.close())
 }
 
