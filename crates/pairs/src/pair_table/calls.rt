@@ -1,28 +1,30 @@
 // Reading and writing the values of pairs.
-ghost use Rattle.std.specs.Prelude.{◌≡◌, ℕ, ◌<◌, true, false, ◌&&◌, ◌||◌, if◌then◌else◌, None, ◌==◌, nat_eq};
+ghost use Rattle.std.specs.Prelude.{◌≡◌, ℕ, ◌<◌, true, false, ◌&&◌, ◌||◌, if◌then◌else◌, None, ◌==◌, nat_eq, nat_lt};
 ghost use Rattle.pairs.specs.Cells.{cell_at};
 
+use crate::blank::Blank;
 use crate::pair_table::PairTable;
 
-impl<T: Copy> PairTable<T> {
-    // Every pair has the blank.
-    fn filled(blank: T) -> PairTable<T>
-        ensures { (p q : ℕ) → cell_at result p q ≡ blank }
+impl<T: Blank> PairTable<T> {
+    // Every pair has the value, unless a state is past the last.
+    #[tactic(auto, using(crate::proofs::Cells::cell_filled))]
+    pub fn filled(value: T) -> PairTable<T>
+        ensures { (p q : ℕ) → cell_at result p q ≡ (if nat_lt p 48 && nat_lt q 48 then value else T.blank) }
     {
         PairTable {
-            blank,
-            cells: [[blank; 48]; 48],
+            cells: [[value; 48]; 48],
         }
     }
 
-    // The value of the pair.
+    // The value of the pair, and the blank where a state is past the last.
     pub fn get(&self, p: usize, q: usize) -> T
-        ensures { result ≡ cell_at self.now p q }
+        ensures there { result ≡ cell_at self.now p q }
+        ensures beyond { (p < 48 → q < 48 → ⊥) → result ≡ T.blank }
     {
         if p < 48 && q < 48 {
             self.cells[p][q]
         } else {
-            self.blank
+            T::blank()
         }
     }
 
@@ -39,6 +41,7 @@ impl<T: Copy> PairTable<T> {
 
 impl PairTable<bool> {
     // No pair is marked.
+    #[tactic(auto, using(crate::proofs::Cells::same_either))]
     pub fn unmarked() -> PairTable<bool>
         ensures { (p q : ℕ) → cell_at result p q ≡ false }
     {
@@ -65,6 +68,7 @@ impl PairTable<bool> {
 
 impl PairTable<Option<usize>> {
     // No pair has a number.
+    #[tactic(auto, using(crate::proofs::Cells::same_either))]
     pub fn unnumbered() -> PairTable<Option<usize>>
         ensures { (p q : ℕ) → cell_at result p q ≡ None }
     {

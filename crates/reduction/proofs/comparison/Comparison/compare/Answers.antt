@@ -22,7 +22,7 @@ returns-then-get g c =
     (transition g.W.Kind.stands (ranks_in c.args.self.now.live.now.table.shape.now) c.args.rule.now) (transition g.W.Kind.stands (ranks_in c.args.self.now.live.now.table.shape.now) c.args.other.now) c.args.marks.now c.in-Some.place c.from-p.result c.from-q.result c.in-Some.ensures
     (child_read (rank (ranks_in c.args.self.now.live.now.table.shape.now) c.args.rule.now.left.symbol) c.args.rule.now.left.children c.in-Some.place c.from-p.result c.in-Some.ensures.within c.from-p.ensures)
     (other_read (ranks_in c.args.self.now.live.now.table.shape.now) c.args.rule.now.left.symbol c.args.other.now.left.symbol c.args.rule.now.left.children c.args.other.now.left.children c.in-Some.place c.from-q.result c.in-Some.ensures.symbol c.in-Some.ensures.within c.from-q.ensures)
-    c.if-get.ensures
+    c.if-get.ensures.there
 
 pub returns-then-not-tells : goal.returns-then-not-tells
 returns-then-not-tells g c =
@@ -38,4 +38,4 @@ returns g c =
     (transition g.W.Kind.stands (ranks_in c.args.self.now.live.now.table.shape.now) c.args.rule.now) (transition g.W.Kind.stands (ranks_in c.args.self.now.live.now.table.shape.now) c.args.other.now) c.args.marks.now c.in-Some.place c.from-p.result c.from-q.result c.in-Some.ensures
     (child_read (rank (ranks_in c.args.self.now.live.now.table.shape.now) c.args.rule.now.left.symbol) c.args.rule.now.left.children c.in-Some.place c.from-p.result c.in-Some.ensures.within c.from-p.ensures)
     (other_read (ranks_in c.args.self.now.live.now.table.shape.now) c.args.rule.now.left.symbol c.args.other.now.left.symbol c.args.rule.now.left.children c.args.other.now.left.children c.in-Some.place c.from-q.result c.in-Some.ensures.symbol c.in-Some.ensures.within c.from-q.ensures)
-    c.mark_both.new.self (λ q on. let small = c.args.self.now.live.now.few q on in omega arith) c.requires.0 c.requires.1.0 c.requires.1.1 (c.if-not-tells.ensures.0 refl) c.if-get.ensures c.mark_both.ensures.there
+    c.mark_both.new.self (λ q on. let small = c.args.self.now.live.now.few q on in omega arith) c.requires.0 c.requires.1.0 c.requires.1.1 (c.if-not-tells.ensures.0 refl) c.if-get.ensures.there c.mark_both.ensures.there

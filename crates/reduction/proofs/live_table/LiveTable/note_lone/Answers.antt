@@ -24,7 +24,7 @@ returns-then-not-is_live g c = record {
 pub returns-then-get : goal.returns-then-get
 returns-then-get g c = record {
   grown = grown_same g.W.Kind.weights (automaton_of g.W.Kind.stands c.args.self.now.table) (live_in c.args.self.now.life.now) round_one c.args.marks.now;
-  noted = λ a b on d. ap (λ x. cell_at c.args.marks.now x c.args.other) (child_read (rank (ranks_in c.args.self.now.table.shape.now) c.args.rule.now.left.symbol) c.args.rule.now.left.children c.args.place c.from-child.result b c.from-child.ensures) ∙ sym c.if-get.ensures;
+  noted = λ a b on d. ap (λ x. cell_at c.args.marks.now x c.args.other) (child_read (rank (ranks_in c.args.self.now.table.shape.now) c.args.rule.now.left.symbol) c.args.rule.now.left.children c.args.place c.from-child.result b c.from-child.ensures) ∙ sym c.if-get.ensures.there;
 }
 
 pub returns-then-not-has_counterpart : goal.returns-then-not-has_counterpart
