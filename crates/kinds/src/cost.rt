@@ -60,6 +60,13 @@ impl Kind for Cost {
         Cost::from(self.code.wrapping_neg())
     }
 
+    fn same(self, other: Cost) -> bool
+        ensures kind { (result ≡ true) ↔ (self ≡ other) }
+        ensures number { (result ≡ true) ↔ (self.code ≡ other.code) }
+    {
+        self.code == other.code
+    }
+
     fn code(self) -> i64
         ensures kind { result ≡ costs.code self }
         ensures number { result ≡ self.code }

@@ -30,6 +30,13 @@ impl Kind for Marks {
         Marks
     }
 
+    fn same(self, other: Marks) -> bool
+        ensures kind { (result ≡ true) ↔ (self ≡ other) }
+        ensures always { result ≡ true }
+    {
+        true
+    }
+
     fn code(self) -> i64
         ensures kind { result ≡ marks.code self }
         ensures number { result ≡ pos 1 }

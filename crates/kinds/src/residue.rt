@@ -58,6 +58,13 @@ impl Kind for Residue {
         self.power(8)
     }
 
+    fn same(self, other: Residue) -> bool
+        ensures kind { (result ≡ true) ↔ (self ≡ other) }
+        ensures number { (result ≡ true) ↔ (self.code ≡ other.code) }
+    {
+        self.code == other.code
+    }
+
     fn code(self) -> i64
         ensures kind { result ≡ residues.code self }
         ensures number { result ≡ pos self.code }

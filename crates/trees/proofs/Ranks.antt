@@ -1,5 +1,5 @@
 -- Reading the ranks of an alphabet out of its array.
-use Rattle.std.proofs.Common.{◌≡◌, ℕ, ◌+◌, ◌<◌, ◌≤◌, min, ◌≢◌, List, [], ◌∷◌, ◌++◌, length, get_or, take, set, replicate, Some, unwrap_or, sym, ap, ◌∙◌, ⊎_elim, arith}
+use Rattle.std.proofs.Common.{◌≡◌, ℕ, ◌+◌, ◌<◌, ◌≤◌, min, ◌≢◌, List, [], ◌∷◌, ◌++◌, length, get_or, take, set, replicate, Some, None, unwrap_or, sym, ap, ◌∙◌, ⊎_elim, arith}
 use Rattle.std.specs.List.{slice_get}
 use Rattle.std.proofs.lemmas.List.{get_or-take, get_or-replicate, get_or_past, get_or-set_same, get_or-set_other, take_more, take_more_set, take_all, take_min, length-set, length-take, length-replicate}
 use Rattle.std.proofs.lemmas.Option.{slice_get-get_or, slice_get_past, slice_get_within, get_or_from_slice_get, unwrap_or-slice_get}
@@ -14,9 +14,15 @@ getD_constant n k x =
     ⊎_elim (get_or-replicate n k x x)
     (λ h. let l : length (replicate n x) ≤ k = rw (length-replicate n x) h in get_or_past (replicate n x) k x l) (cases_lt k n)
 
--- an element that is there
+-- an element that is there, and one that is not
 pub nth_some : {X : Type 0} (xs : List X) (i : ℕ) (x d : X) → slice_get xs i ≡ Some x → (i < length xs) × (get_or xs i d ≡ x)
 nth_some xs i x d e = (slice_get_within xs i x e, get_or_from_slice_get xs i x d e)
+
+pub nth_none : {X : Type 0} (xs : List X) (i : ℕ) → slice_get xs i ≡ None → i < length xs → ⊥
+nth_none [] i e l = omega arith
+nth_none (x ∷ xs) i e l =
+    let f : slice_get (x ∷ xs) i ≡ Some (get_or (x ∷ xs) i x) = slice_get-get_or (x ∷ xs) i x l in
+    let z : ◌≡◌ {A = ℕ} 0 1 = cc in omega arith
 
 pub nth_set_same : {X : Type 0} (xs : List X) (i : ℕ) (y : X) → i < length xs → slice_get (set xs i y) i ≡ Some y
 nth_set_same xs i y h =

@@ -388,6 +388,7 @@ fn chain_or_ring(draft: &mut Draft<'_, Residue>, all: bool) -> Result<(), Fail> 
 fn chains_of_48_states(rt: HostRuntime) -> Result<(), Fail> {
     let heap = rt.alloc();
     let list = stack(heap, 47, |k| over(1, k))?;
+    let mut work = vec![in heap; Place::blank(); 48]?;
     for (all, left, state) in [(false, 48, 47), (true, 1, 0)] {
         with_table(
             heap,
@@ -395,7 +396,6 @@ fn chains_of_48_states(rt: HostRuntime) -> Result<(), Fail> {
             49,
             |draft| chain_or_ring(draft, all),
             |table| {
-                let mut work = vec![in heap; Place::blank(); 48]?;
                 assert_eq!(rt;
                     answer_of(table.weigh(list.as_slice(), work.as_mut_slice())),
                     Ok(Answer::Weighs(47, 2))
@@ -439,6 +439,7 @@ fn ring(draft: &mut Draft<'_, Residue>, fall: Residue) -> Result<(), Fail> {
 #[test]
 fn rings_of_47_states(rt: HostRuntime) -> Result<(), Fail> {
     let heap = rt.alloc();
+    let mut work = vec![in heap; Place::blank(); 48]?;
     for (fall, left) in [(86, 2), (1, 48)] {
         with_table(
             heap,
@@ -446,7 +447,6 @@ fn rings_of_47_states(rt: HostRuntime) -> Result<(), Fail> {
             95,
             |draft| ring(draft, Residue::read(fall)?),
             |table| {
-                let mut work = vec![in heap; Place::blank(); 48]?;
                 assert_eq!(rt; table.reduce(work.as_mut_slice()), Ok((48, left)));
                 Ok(())
             },
