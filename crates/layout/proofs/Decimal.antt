@@ -1,17 +1,29 @@
 -- A text of digits is the decimal of its value, if no zero leads.
-use Rattle.std.proofs.Common.{◌≡◌, ℕ, zero, suc, ◌^◌, ◌<◌, ◌≤◌, inl, inr, List, [], ◌∷◌, length, get_or, ℤ, pos, negsuc, neg_ℤ, Some, None, Ok, Err, decimal, false, Bor, MatchResult, Result, w64, sym, refl, ap, ◌∙◌, arith}
+use Rattle.std.proofs.Common.{◌≡◌, ℕ, zero, suc, ◌+◌, ◌-◌, ◌*◌, ◌^◌, ◌<◌, ◌≤◌, inl, inr, List, [], ◌∷◌, length, get_or, take, drop, ℤ, pos, negsuc, neg_ℤ, Some, None, decimal, sym, refl, ap, ◌∙◌, subst, arith, length-take}
 use native.Mathlib.Nat.{pow-le-pow_right}
 use lib.Signed.{mag}
-use Rattle.std.specs.Str.{IsUtf8}
-use Rattle.std.specs.Str.Parse.{AllDigits, digits_value, ParsesSigned}
-use Rattle.std.specs.Result.{result_ok, is_ok}
-use Rattle.std.specs.Int.{IsInRange}
+use Rattle.std.specs.Str.Parse.{AllDigits, digits_value}
+use Rattle.std.specs.Int.{IsInRange, IsOutOfRange}
 use Rattle.std.specs.Fmt.{signed_decimal}
-use Rattle.std.proofs.lemmas.Fmt.{decimal_is_IsNumeral, decimal_digit, decimal-digits_value, first_decimal, parse-signed_decimal, IsAscii-signed}
-use Rattle.std.proofs.lemmas.Int.Digits.{digits_value-lt}
-use Rattle.std.proofs.lemmas.Str.{IsUtf8-from_ascii}
-use Rattle.std.proofs.lemmas.Str.Parse.{IsNumeralModel, digit_at, numerals_by_value, tells_digits, parse_signed_plain, parse_signed_minus}
-use Rattle.layout.specs.Numerals.{StartsNumber, ReadsSigned}
+use Rattle.std.proofs.lemmas.Fmt.{decimal_is_IsNumeral, decimal_digit, decimal-digits_value, first_decimal}
+use Rattle.std.proofs.lemmas.Int.Digits.{digits_value-lt, digits_value_more}
+use Rattle.std.proofs.lemmas.Str.{digit_value_digit}
+use Rattle.std.proofs.lemmas.Str.Parse.{IsNumeralModel, digit_at, numerals_by_value, tells_digits}
+use Rattle.layout.specs.Numerals.{ReadsValue, StartsNumber, ReadsSigned}
+
+-- digits of a short text have a value that leaves room for one more
+pub value_room : (text : List ℕ) (i : ℕ) → length text ≤ 12 → i < length text → AllDigits 10 (take i text) → digits_value 10 (take i text) < 10 ^ 11
+value_room text i few less d =
+    let short : length (take i text) ≤ 11 = omega (arith, length-take i text) in
+    omega (arith, digits_value-lt 10 (take i text) d, pow-le-pow_right {n = 10} (omega arith) short)
+
+-- one digit more
+pub value_step : (text : List ℕ) (i : ℕ) → i < length text → IsInRange 48 57 (get_or text i 0) → 10 * digits_value 10 (take i text) + (get_or text i 0 - 48) ≡ digits_value 10 (take (i + 1) text)
+value_step text i less digit = omega (arith, digits_value_more 10 text i less, digit_value_digit (get_or text i 0) digit)
+
+-- another byte among them
+pub no_digit : (text : List ℕ) (i : ℕ) → i < length text → IsOutOfRange 48 57 (get_or text i 0) → AllDigits 10 text → ⊥
+no_digit text i less other d = omega (arith, digit_at text i d less)
 
 own : IsNumeralModel (AllDigits 10) (digits_value 10)
 own = numerals_by_value _ tells_digits
@@ -34,16 +46,6 @@ starts_signed (negsuc n) fits = let first = first_digit n (omega arith) in inr (
 pub signed_refused : (text : List ℕ) → (StartsNumber text → ⊥) → ReadsSigned text None
 signed_refused text not = λ z fits is. not (rw is (starts_signed z fits))
 
--- the bytes are no text, so no number
-pub signed_no_text : {A E : Type 0} (text : List ℕ) (r : Result A E) (P : A → Type 0) (Q : E → Type 0) → is_ok r ≡ false → MatchResult r P (λ e. (IsUtf8 text → ⊥) × Q e) → ReadsSigned text None
-signed_no_text text (Ok s) P Q bad cases = let clash : ◌≡◌ {A = ℕ} 0 1 = cc in absurd (omega arith)
-signed_no_text text (Err e) P Q bad cases = λ z fits is. cases.0 (rw is (IsUtf8-from_ascii (signed_decimal z) (IsAscii-signed z fits)))
-
--- the text is that of the bytes
-text_same : {E : Type 0} (text : List ℕ) (r : Result (Bor (List ℕ)) E) (s : Bor (List ℕ)) (P : Bor (List ℕ) → Type 0) (Q : E → Type 0) → Some s ≡ result_ok r → MatchResult r (λ x. (x.now ≡ text) × P x) Q → s.now ≡ text
-text_same text (Ok x) s P Q is cases = let same : s ≡ x = cc in rw same cases.0
-text_same text (Err e) s P Q is cases = let clash : ◌≡◌ {A = ℕ} 0 1 = cc in absurd (omega arith)
-
 -- digits with no zero in front are the decimal of their value
 digits_plain : (ds : List ℕ) → AllDigits 10 ds → length ds ≤ 12 → 0 < length ds → (get_or ds 0 0 ≡ 48 → length ds ≡ 1) → (digits_value 10 ds < 10 ^ length ds) × (digits_value 10 ds < 10 ^ 12) × (decimal (digits_value 10 ds) ≡ ds)
 digits_plain ds all few some alone =
@@ -63,21 +65,39 @@ minus_read b ds z all few some minus digit is =
     at zero small same e = absurd (omega (arith, ap (λ l. get_or l 0 0) (sym (decimal_digit 0 (omega arith)) ∙ same)))
     at (suc n) small same e = rw e (omega arith, rw (minus, ← same) refl)
 
-signed_read : {E : Type 0} (text : List ℕ) (r : Result ℤ E) → length text ≤ 12 → StartsNumber text → ParsesSigned w64 10 text r → ReadsSigned text (result_ok r)
-signed_read {E} text (Ok z) few (inl alone) parses =
-    let found = parse_signed_plain own {E = E} w64 text (Ok z) parses (λ e. omega arith) (λ e. omega arith) in
-    plain_read text z found.0.0 few found.0.1 (λ e. alone.0) found.1
-signed_read {E} text (Ok z) few (inr (inl digit)) parses =
-    let found = parse_signed_plain own {E = E} w64 text (Ok z) parses (λ e. omega arith) (λ e. omega arith) in
-    plain_read text z found.0.0 few found.0.1 (λ e. absurd (omega arith)) found.1
-signed_read {E} [] (Ok z) few (inr (inr minus)) parses = absurd (omega (arith, minus.0))
-signed_read {E} (b ∷ ds) (Ok z) few (inr (inr minus)) parses =
-    let found = parse_signed_minus own {E = E} w64 (b ∷ ds) (Ok z) parses minus.1 in
-    minus_read b ds z found.0.0 (omega arith) found.0.1 minus.1 minus.2 found.1
-signed_read {E} text (Err e) few starts parses = λ z fits is.
-    let other : ◌≡◌ {A = Result ℤ E} (Err e) (Ok z) = parse-signed_decimal w64 z text (Err e) (record { sfits = fits }) fits is parses in
-    let clash : ◌≡◌ {A = ℕ} 0 1 = cc in
-    absurd (omega arith)
+-- a short text of digits has a value of few digits
+pub value_small : (text : List ℕ) (n : ℕ) → length text ≤ 12 → AllDigits 10 text → n ≡ digits_value 10 text → n < 10 ^ 12
+value_small text n few all is = omega (arith, is, digits_value-lt 10 text all, pow-le-pow_right {n = 10} (omega arith) few)
 
-pub text_read : {E F : Type 0} (text : List ℕ) (found : Result (Bor (List ℕ)) F) (s : Bor (List ℕ)) (r : Result ℤ E) (P : Bor (List ℕ) → Type 0) (Q : F → Type 0) → length text ≤ 12 → StartsNumber text → Some s ≡ result_ok found → MatchResult found (λ x. (x.now ≡ text) × P x) Q → ParsesSigned w64 10 s.now r → ReadsSigned text (result_ok r)
-text_read text found s r P Q few starts is cases parses = signed_read text r few starts (rw (text_same text found s P Q is cases) at parses)
+no_minus : (n : ℕ) (text : List ℕ) → n < 2 ^ 64 → get_or text 0 0 ≡ 45 → text ≡ decimal n → ⊥
+no_minus n text fits minus is =
+    let reads = decimal_is_IsNumeral n fits in
+    omega (arith, digit_at (decimal n) 0 reads.0.1 reads.0.0, ap (λ l. get_or l 0 0) is)
+
+-- digits without a minus before them, and another byte among them
+pub plain_found : (text : List ℕ) (n : ℕ) → length text ≤ 12 → StartsNumber text → (get_or text 0 0 ≡ 45 → ⊥) → ReadsValue text (Some n) → ReadsSigned text (Some (pos n))
+plain_found text n few (inl alone) plain reads = plain_read text (pos n) reads.1.0 few (omega (arith, alone.0)) (λ e. alone.0) (ap pos reads.1.1)
+plain_found text n few (inr (inl digit)) plain reads = plain_read text (pos n) reads.1.0 few digit.0 (λ e. absurd (omega (arith, digit.1))) (ap pos reads.1.1)
+plain_found text n few (inr (inr minus)) plain reads = absurd (plain minus.1)
+
+pub plain_none : (text : List ℕ) → (get_or text 0 0 ≡ 45 → ⊥) → ReadsValue text None → ReadsSigned text None
+plain_none text plain not (pos n) fits is = not (rw is (decimal_is_IsNumeral n (omega arith)).0.1)
+plain_none text plain not (negsuc n) fits is = plain (ap (λ l. get_or l 0 0) is)
+
+-- digits behind a minus, and another byte among them
+behind : (text rest : List ℕ) (n : ℕ) → length text ≤ 12 → StartsNumber text → text ≡ 45 ∷ rest → ReadsValue rest (Some n) → ReadsSigned (45 ∷ rest) (Some (neg_ℤ (pos n)))
+behind text rest n few (inl alone) is reads = absurd (omega (arith, alone.1, ap (λ l. get_or l 0 0) is))
+behind text rest n few (inr (inl digit)) is reads = absurd (omega (arith, digit.1, ap (λ l. get_or l 0 0) is))
+behind text rest n few (inr (inr minus)) is reads =
+    let long : length (45 ∷ rest) ≤ 12 = subst (λ t. length t ≤ 12) is few in
+    let more : 1 < length (45 ∷ rest) = subst (λ t. 1 < length t) is minus.0 in
+    minus_read 45 rest (neg_ℤ (pos n)) reads.1.0 (omega (arith, long)) (omega (arith, more)) refl (subst (λ t. IsInRange 49 57 (get_or t 1 0)) is minus.2) (ap (λ m. neg_ℤ (pos m)) reads.1.1)
+
+pub minus_found : (text rest : List ℕ) (n : ℕ) → length text ≤ 12 → StartsNumber text → text ≡ 45 ∷ rest → ReadsValue rest (Some n) → ReadsSigned text (Some (neg_ℤ (pos n)))
+minus_found text rest n few starts is reads = rw is (behind text rest n few starts is reads)
+
+pub minus_none : (text rest : List ℕ) → text ≡ 45 ∷ rest → ReadsValue rest None → ReadsSigned text None
+minus_none text rest minus not (pos n) fits is = no_minus n text (omega arith) (ap (λ l. get_or l 0 0) minus) is
+minus_none text rest minus not (negsuc n) fits is =
+    let same : rest ≡ decimal (suc n) = ap (drop 1) (sym minus ∙ is) in
+    not (rw same (decimal_is_IsNumeral (suc n) (omega arith)).0.1)

@@ -1,9 +1,20 @@
 -- Texts of digits and of blanks, as the parts of a field are read.
-use Rattle.std.specs.Prelude.{◌≡◌, ℕ, ◌-◌, ◌^◌, ◌<◌, ◌≤◌, ◌⊎◌, List, ◌++◌, length, replicate, ℤ, Some, None, Option, ◌≢◌, slice_index_or}
+use Rattle.std.specs.Prelude.{◌≡◌, ℕ, ◌-◌, ◌^◌, ◌<◌, ◌≤◌, ◌⊎◌, List, ◌∷◌, ◌++◌, length, replicate, ℤ, Some, None, Option, ◌≢◌, slice_index_or}
 use Rattle.std.specs.Int.{IsInRange}
 use Rattle.std.specs.Int.Signed.{mag}
+use Rattle.std.specs.Str.Parse.{AllDigits, digits_value}
 use Rattle.std.specs.Fmt.{signed_decimal}
 use Rattle.layout.specs.Fields.{field}
+
+-- the value of a short text of digits, if nothing else stands in it
+abbrev pub ReadsValue : List ℕ → Option ℕ → Type 0
+ReadsValue text (Some n) = (n < 10 ^ 12) × (AllDigits 10 text × (n ≡ digits_value 10 text))
+ReadsValue text None = AllDigits 10 text → ⊥
+
+-- what stands behind the minus with which a text begins
+abbrev pub BehindMinus : List ℕ → Option (List ℕ) → Type 0
+BehindMinus text (Some rest) = text ≡ 45 ∷ rest
+BehindMinus text None = slice_index_or text 0 0 ≢ 45
 
 -- a zero alone, another digit, or a minus before one
 abbrev pub StartsNumber : List ℕ → Type 0

@@ -1,8 +1,9 @@
 // Numbers in their columns.
-ghost use Rattle.std.specs.Prelude.{◌≡◌, ◌≤◌, [], ◌∷◌, ◌++◌, length, IfOk, Decides, OnOk};
+ghost use Rattle.std.specs.Prelude.{◌≡◌, ◌^◌, ◌<◌, ◌≤◌, pos, neg_ℤ, [], ◌∷◌, ◌++◌, length, IfOk, Decides, OnOk};
+ghost use Rattle.std.specs.Option.{option_map};
 ghost use Rattle.layout.specs.Answers.{ReadsNumbers, number_line, weight_line};
 ghost use Rattle.layout.specs.Fields.{field, ReadsNumber, ReadsCode};
-ghost use Rattle.layout.specs.Numerals.{StartsNumber, ReadsField, ReadsSigned, Padded};
+ghost use Rattle.layout.specs.Numerals.{ReadsValue, BehindMinus, StartsNumber, ReadsField, ReadsSigned, Padded};
 
 use std::alloc::{AllocError, Global};
 use std::io::Write;
@@ -25,15 +26,50 @@ fn starts_number(text: &[u8]) -> bool
     matches!(text, [b'0'] | [b'1'..=b'9', ..] | [b'-', b'1'..=b'9', ..])
 }
 
+// The value of decimal digits, or `None` where another byte stands among them.
+fn value_of(text: &[u8]) -> Option<usize>
+    requires { length text.now ≤ 12 }
+    ensures { ReadsValue text.now result }
+{
+    let mut value = 0;
+    for byte in text {
+        if !byte.is_ascii_digit() {
+            return None;
+        }
+        value = 10 * value + usize::from(*byte - b'0');
+    }
+    Some(value)
+}
+
+// What stands behind a minus, if the text begins with one.
+fn behind_minus(text: &[u8]) -> Option<&[u8]>
+    ensures { BehindMinus text.now (option_map (λ rest. rest.now) result) }
+{
+    match text {
+        [b'-', rest @ ..] => Some(rest),
+        _ => None,
+    }
+}
+
+// Minus a number.
+fn negative(number: usize) -> i64
+    requires { number < 10 ^ 12 }
+    ensures { result ≡ neg_ℤ (pos number) }
+{
+    -(number as i64)
+}
+
 // The number whose decimal digits these are, with a minus before those of a negative one.
 fn read_signed(text: &[u8]) -> Option<i64>
     requires { length text.now ≤ 12 }
     ensures { ReadsSigned text.now result }
 {
-    if starts_number(text) {
-        str::from_utf8(text).ok()?.parse().ok()
-    } else {
-        None
+    if !starts_number(text) {
+        return None;
+    }
+    match behind_minus(text) {
+        Some(digits) => Some(negative(value_of(digits)?)),
+        None => Some(value_of(text)? as i64),
     }
 }
 

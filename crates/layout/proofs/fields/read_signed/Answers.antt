@@ -1,15 +1,25 @@
-use Rattle.std.proofs.Common.{sym}
+use Rattle.std.proofs.Common.{w64, SFits, rules, arith}
+use Rattle.std.proofs.lemmas.Int.{to_z-of_z, to_z_pos}
 use Rattle.layout.proofs.Decided.{fails}
-use Rattle.layout.proofs.Decimal.{signed_refused, signed_no_text, text_read}
+use Rattle.layout.proofs.Decimal.{signed_refused, plain_found, plain_none, minus_found, minus_none}
 use Rattle.layout.proofs.fields.read_signed.Goals as goal
 
-pub returns-in_err-ok : goal.returns-in_err-ok
-returns-in_err-ok c = rw c.from_residual.ensures (signed_no_text c.args.text.now c.from_utf8.result _ _ (sym c.in_err-ok.ensures.variant) c.from_utf8.ensures.cases)
+pub returns-then-not-starts_number : goal.returns-then-not-starts_number
+returns-then-not-starts_number c = signed_refused c.args.text.now (fails c.starts_number.result c.starts_number.ensures c.if-not-starts_number.true)
 
-pub returns-in_ok-ok : goal.returns-in_ok-ok
-returns-in_ok-ok c =
-    rw c.ok-then-starts_number.ensures.value
-    (text_read c.args.text.now c.from_utf8.result c.in_ok-ok.field-0 c.parse.result _ _ c.requires (c.starts_number.ensures.0 c.if-starts_number.true) c.in_ok-ok.ensures.value c.from_utf8.ensures.cases c.parse.ensures.value.0)
+pub returns-in_err-value_of-in-Some : goal.returns-in_err-value_of-in-Some
+returns-in_err-value_of-in-Some c = rw c.from_residual.ensures (minus_none c.args.text.now c.in-Some.digits.now c.in-Some.ensures c.in_err-value_of-in-Some.ensures)
 
-pub returns-else-starts_number : goal.returns-else-starts_number
-returns-else-starts_number c = signed_refused c.args.text.now (fails c.starts_number.result c.starts_number.ensures c.if-starts_number.false)
+pub returns-in_ok-value_of-in-Some : goal.returns-in_ok-value_of-in-Some
+returns-in_ok-value_of-in-Some c =
+    let fits : SFits w64 c.negative.result = search rules in
+    rw (to_z-of_z w64 c.negative.result fits, c.negative.ensures)
+    (minus_found c.args.text.now c.in-Some.digits.now c.in_ok-value_of-in-Some.field-0 c.requires (c.starts_number.ensures.0 c.if-not-starts_number.false) c.in-Some.ensures c.in_ok-value_of-in-Some.ensures)
+
+pub returns-in_err-value_of-in-None : goal.returns-in_err-value_of-in-None
+returns-in_err-value_of-in-None c = rw c.from_residual-in_err-value_of-in-None.ensures (plain_none c.args.text.now c.in-None.ensures c.in_err-value_of-in-None.ensures)
+
+pub returns-in_ok-value_of-in-None : goal.returns-in_ok-value_of-in-None
+returns-in_ok-value_of-in-None c =
+    rw (to_z_pos w64 c.in_ok-value_of-in-None.field-0 (omega (arith, c.in_ok-value_of-in-None.ensures.0)))
+    (plain_found c.args.text.now c.in_ok-value_of-in-None.field-0 c.requires (c.starts_number.ensures.0 c.if-not-starts_number.false) c.in-None.ensures c.in_ok-value_of-in-None.ensures)
