@@ -2,7 +2,7 @@
 use crate::access::Access;
 use liveness::{Life, Reach};
 
-#[derive(Drop)]
+#[derive(Clone, Copy)]
 pub struct Survey {
     pub reach: Reach,
     pub life: Life,

@@ -1,5 +1,5 @@
 // Finding the live states, from the accepting ones down.
-ghost use Rattle.std.specs.Prelude.{◌≡◌, ◌<◌, ◌≤◌, true, false, slice_get};
+ghost use Rattle.std.specs.Prelude.{◌≡◌, ◌<◌, ◌≤◌, true, false, length, Some, slice_get, slice_index};
 ghost use Rattle.rules.specs.Shapes.{ranks_in, transition, automaton_of};
 ghost use Rattle.liveness.specs.Listings.{flags_of, Listed};
 ghost use Rattle.liveness.specs.Reaching.{Reached};
@@ -21,6 +21,15 @@ fn note(states: usize, state: usize, lead: Option<Lead>, life: &mut Life)
     }
 }
 
+// Adds the state in a child place of the rule at a place, if it is one and new.
+fn note_child(states: usize, children: &[u8], at: usize, place: usize, life: &mut Life)
+    requires { (place < length children.now) × (states ≤ 48) × (Listed states (flags_of life.old) life.old.order life.old.count) }
+    ensures { Noted states (slice_index children.now place) (Some (record { rule = at; place = place })) life.old life.new }
+{
+    let lead = Lead { rule: at, place };
+    note(states, usize::from(children[place]), Some(lead), life);
+}
+
 // The accepting states that are reached.
 fn begin(shape: &Shape, reach: &Reach) -> Life
     ensures { Begun shape.now reach.now result }
@@ -40,13 +49,15 @@ fn follow<W: Kind>(table: &Table<W>, reach: &Reach, at: usize, rule: &Rule<W>, l
     requires { (slice_get (automaton_of W.Kind.stands table.now).rules at ≡ Some (transition W.Kind.stands (ranks_in table.now.shape.now) rule.now)) × (Living (automaton_of W.Kind.stands table.now) reach.now life.old) }
     ensures { Followed (automaton_of W.Kind.stands table.now) reach.now at life.old life.new }
 {
-    let children = table.shape.children(&rule.left);
-    if !life.has(usize::from(rule.target)) || !reach.has_all(children) {
+    if !life.has(usize::from(rule.target)) {
         return;
     }
-    for (k, child) in children.iter().enumerate() {
-        let lead = Lead { rule: at, place: k };
-        note(table.shape.states(), usize::from(*child), Some(lead), life);
+    let children = table.shape.children(&rule.left);
+    if !reach.has_all(children) {
+        return;
+    }
+    for k in 0..children.len() {
+        note_child(table.shape.states(), children, at, k, life);
     }
 }
 

@@ -1,14 +1,28 @@
 // States in the order of their discovery, each with how it was found. The first `count` places of `order` hold them.
-ghost use Rattle.std.specs.Prelude.{◌≡◌, ◌<◌, ◌≤◌, false, length, take, slice_index_or};
+ghost use Rattle.std.specs.Prelude.{◌≡◌, ◌<◌, ◌≤◌, ⊤, false, length, take, slice_index_or};
 ghost use Rattle.automata.specs.Merging.{all_in};
 ghost use Rattle.liveness.specs.Listings.{flags_of, how_of, none_found, found_too};
 
+use std::alloc::AllocError;
+
 #[derive(Drop)]
 pub struct Found<T> {
-    pub(crate) how: [Option<T>; 48],
-    pub(crate) order: [usize; 48],
-    pub(crate) count: usize,
+    pub how: [Option<T>; 48],
+    pub order: [usize; 48],
+    pub count: usize,
 }
+
+impl<T: Copy> Clone for Found<T> {
+    ghost is_clone = { λ found clone. clone ≡ found };
+
+    ghost is_infallible = { λ _. ⊤ };
+
+    fn clone(&self) -> Result<Found<T>, AllocError> {
+        Ok(*self)
+    }
+}
+
+impl<T: Copy> Copy for Found<T> {}
 
 impl<T: Copy> Found<T> {
     // No state.

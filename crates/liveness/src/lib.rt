@@ -2,12 +2,14 @@
 #![tactic(auto)]
 
 mod downward;
+mod flags;
 mod found;
 mod life;
 mod reach;
 mod upward;
 
 pub use downward::find_live;
+pub use flags::{all_set, is_set};
 pub use found::Found;
 pub use life::{Lead, Life};
 pub use reach::Reach;

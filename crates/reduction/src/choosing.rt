@@ -18,6 +18,7 @@ use crate::chooser::Chooser;
 use crate::factors::factor;
 use crate::live_table::LiveTable;
 use kinds::Kind;
+use liveness::is_set;
 use pairs::PairTable;
 use rules::{Place, Rule, Run, rule_for};
 
@@ -40,13 +41,6 @@ fn give<W: Kind>(state: usize, weight: W, chosen: &mut [bool; 48], work: &mut [P
         chosen[state] = true;
         work[state] = holding(state, weight);
     }
-}
-
-// Whether a state has a flag; none past the last has.
-fn is_set(flags: &[bool; 48], state: usize) -> bool
-    ensures { result ≡ set_in flags.now state }
-{
-    flags.get(state).copied().unwrap_or(false)
 }
 
 // The weight of a rule times the factor of its target.
