@@ -1,5 +1,5 @@
 -- The parts of a line, as they are read.
-use Rattle.std.specs.Prelude.{◌≡◌, ℕ, ◌<◌, List, length, Some, None, Option, ◌≢◌, slice_index}
+use Rattle.std.specs.Prelude.{◌≡◌, ℕ, ◌<◌, ◌≤◌, List, length, Some, None, Option, ◌≢◌, slice_index}
 use Rattle.std.specs.List.{AllByRecursion}
 use Rattle.layout.specs.declared.line.Line.{Line}
 use Rattle.layout.specs.Fields.{fields, Short}
@@ -8,6 +8,10 @@ use Rattle.layout.specs.Lines.{Entry, written, Fits, Says}
 -- the part is the fields of some numbers
 abbrev pub Numbers : List ℕ → Type 0
 Numbers part = (ns : List ℕ) × AllByRecursion Short ns × (part ≡ fields ns)
+
+-- the part has at most four fields of six columns
+abbrev pub Few : List ℕ → Type 0
+Few part = length part ≤ 24
 
 -- no byte of the text ends a line
 abbrev pub Unbroken : List ℕ → Type 0

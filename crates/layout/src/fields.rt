@@ -1,12 +1,14 @@
 // Numbers in their columns.
 ghost use Rattle.std.specs.Prelude.{◌≡◌, ◌^◌, ◌<◌, ◌≤◌, pos, neg_ℤ, [], ◌∷◌, ◌++◌, length, IfOk, Decides, OnOk};
 ghost use Rattle.std.specs.Option.{option_map};
+ghost use Rattle.std.specs.Slice.Iter.{chunks_rest, chunks_size};
 ghost use Rattle.layout.specs.Answers.{ReadsNumbers, number_line, weight_line};
 ghost use Rattle.layout.specs.Fields.{field, ReadsNumber, ReadsCode};
 ghost use Rattle.layout.specs.Numerals.{ReadsValue, BehindMinus, StartsNumber, ReadsField, ReadsSigned, Padded};
 
 use std::alloc::{AllocError, Global};
 use std::io::Write;
+use std::slice::Chunks;
 
 // The text behind its blanks.
 fn skip_blanks(text: &[u8]) -> &[u8]
@@ -102,11 +104,19 @@ pub fn read_code(text: &[u8]) -> Option<i64>
     read_field(text, 12)
 }
 
+// The fields of a part, of six columns each.
+pub fn fields_of(part: &[u8]) -> Chunks<'_, u8>
+    ensures rest { chunks_rest result ≡ part.now }
+    ensures size { chunks_size result ≡ 6 }
+{
+    part.chunks(6)
+}
+
 // The numbers of a part in six columns each.
 pub fn read_numbers(heap: Global, part: &[u8]) -> Result<Vec<usize>, AllocError>
     ensures { IfOk result (λ v. ReadsNumbers part.now v.items) }
 {
-    part.chunks(6).filter_map(read_number).collect(heap)
+    fields_of(part).filter_map(read_number).collect(heap)
 }
 
 // Writes a number at the right of its columns, with a minus if it is negative.

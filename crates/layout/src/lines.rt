@@ -1,9 +1,10 @@
 // Reading the lines of a page.
 ghost use Rattle.layout.specs.Lines.{ReadsLine};
-ghost use Rattle.layout.specs.Parts.{Numbers, Unbroken, ReadsEntry, Ends};
-ghost use Rattle.std.specs.Prelude.{Decides, ◌∷◌};
+ghost use Rattle.layout.specs.Parts.{Numbers, Few, Unbroken, ReadsEntry, Ends};
+ghost use Rattle.std.specs.Prelude.{◌<◌, ◌∷◌, length, Decides, MatchOption};
+ghost use Rattle.std.specs.List.{IsSplitAt};
 
-use crate::fields::read_number;
+use crate::fields::{fields_of, read_number};
 use crate::line::Line;
 use crate::reading::Reading;
 
@@ -11,7 +12,21 @@ use crate::reading::Reading;
 fn are_numbers(part: &[u8]) -> bool
     ensures { Decides result (Numbers part.now) }
 {
-    part.chunks(6).all(|field| read_number(field).is_some())
+    fields_of(part).all(|field| read_number(field).is_some())
+}
+
+// Whether the part has room for at most four numbers.
+fn are_few(part: &[u8]) -> bool
+    ensures { Decides result (Few part.now) }
+{
+    part.len() <= 24
+}
+
+// The field in the first six columns, and the text behind it.
+fn first_field(text: &[u8]) -> Option<(&[u8], &[u8])>
+    ensures { MatchOption result (length text.now < 6) (λ p. IsSplitAt text.now 6 p.0.now p.1.now) }
+{
+    text.split_at_checked(6)
 }
 
 // The line of a table, behind its letter.
@@ -19,7 +34,7 @@ fn are_numbers(part: &[u8]) -> bool
 fn table_line(fields: &[u8]) -> Option<Line>
     ensures { ReadsEntry (84 ∷ fields.now) result }
 {
-    let (states, ranks) = fields.split_at_checked(6)?;
+    let (states, ranks) = first_field(fields)?;
     let states = read_number(states)?;
     are_numbers(ranks).then_some(Line::Table { states, ranks })
 }
@@ -29,12 +44,12 @@ fn rule_line(fields: &[u8]) -> Option<Line>
     requires { Unbroken fields.now }
     ensures { ReadsEntry (82 ∷ fields.now) result }
 {
-    let (symbol, rest) = fields.split_at_checked(6)?;
-    let (target, rest) = rest.split_at_checked(6)?;
+    let (symbol, rest) = first_field(fields)?;
+    let (target, rest) = first_field(rest)?;
     let (weight, children) = rest.split_at_checked(12)?;
     let symbol = read_number(symbol)?;
     let target = read_number(target)?;
-    if children.len() <= 24 && are_numbers(children) {
+    if are_few(children) && are_numbers(children) {
         Some(Line::Rule {
             symbol,
             target,

@@ -7,8 +7,8 @@ use Rattle.layout.proofs.fields.read_numbers.Goals as goal
 
 pub returns : goal.returns
 returns c =
-    let six : chunks_size (filter_map_source c.filter_map.result) ≡ 6 = ap chunks_size c.filter_map.ensures.source ∙ c.chunks.ensures.size in
-    let whole : chunks_rest (filter_map_source c.filter_map.result) ≡ c.args.part.now = ap chunks_rest c.filter_map.ensures.source ∙ c.chunks.ensures.rest in
+    let six : chunks_size (filter_map_source c.filter_map.result) ≡ 6 = ap chunks_size c.filter_map.ensures.source ∙ c.fields_of.ensures.size in
+    let whole : chunks_rest (filter_map_source c.filter_map.result) ≡ c.args.part.now = ap chunks_rest c.filter_map.ensures.source ∙ c.fields_of.ensures.rest in
     IfOk-weaker c.collect.result _ _
     (λ v d ns short is.
     let end = d.1.2 tt in
