@@ -11,53 +11,57 @@ use crate::shape::Shape;
 use kinds::Kind;
 use trees::Refusal;
 
-// The weight of a rule, times the factor of its target.
-fn gained<W: Kind, F: Fn(usize) -> W>(rule: &Rule<W>, factor: &F) -> W
+// The weight, times the factor if the state is the one that is pushed.
+fn times_at<W: Kind>(weight: W, factor: W, state: usize, pushed: usize) -> W
+    ensures { W.Kind.stands result ≡ W.Kind.weights.times (W.Kind.stands weight) (at_state W.Kind.weights pushed (W.Kind.stands factor) state) }
+{
+    if state == pushed {
+        weight.times(factor)
+    } else {
+        weight
+    }
+}
+
+// A weight times the factor of a state.
+fn gained<W: Kind, F: Fn(usize) -> W>(weight: W, factor: &F, state: usize) -> W
     requires { F.IsAlwaysCallable factor.now }
-    ensures { (f : ℕ → W.Weight) → ((q : ℕ) (v : _) → F.post factor.now q v → W.Kind.stands v ≡ f q) → W.Kind.stands result ≡ W.Kind.weights.times (W.Kind.stands rule.now.weight) (f rule.now.target) }
+    ensures { (f : ℕ → W.Weight) → ((q : ℕ) (v : _) → F.post factor.now q v → W.Kind.stands v ≡ f q) → W.Kind.stands result ≡ W.Kind.weights.times (W.Kind.stands weight) (f state) }
 {
-    rule.weight.times(factor(usize::from(rule.target)))
+    weight.times(factor(state))
 }
 
-// The inverse of the factor of a state.
-fn inverse_of<W: Kind, F: Fn(usize) -> W>(factor: &F, state: usize) -> W
+// A weight times the inverse of the factor of a state.
+fn undone<W: Kind, F: Fn(usize) -> W>(weight: W, factor: &F, state: usize) -> W
     requires { F.IsAlwaysCallable factor.now }
-    ensures { (f : ℕ → W.Weight) → ((q : ℕ) (v : _) → F.post factor.now q v → W.Kind.stands v ≡ f q) → W.Kind.stands result ≡ W.Kind.weights.inverse (f state) }
+    ensures { (f : ℕ → W.Weight) → ((q : ℕ) (v : _) → F.post factor.now q v → W.Kind.stands v ≡ f q) → W.Kind.stands result ≡ W.Kind.weights.times (W.Kind.stands weight) (W.Kind.weights.inverse (f state)) }
 {
-    factor(state).inverse()
+    weight.times(factor(state).inverse())
 }
 
-// A weight times what `back` gives at a child.
-fn undone<W: Kind, B: Fn(usize) -> W>(weight: W, child: usize, back: &B) -> W
-    requires { B.IsAlwaysCallable back.now }
-    ensures { (f : ℕ → W.Weight) → ((q : ℕ) (v : _) → B.post back.now q v → W.Kind.stands v ≡ W.Kind.weights.inverse (f q)) → W.Kind.stands result ≡ W.Kind.weights.times (W.Kind.stands weight) (W.Kind.weights.inverse (f child)) }
-{
-    weight.times(back(child))
-}
-
-// A weight times what `back` gives at each child: the inverse of its factor.
-fn undone_all<W: Kind, B: Fn(usize) -> W>(weight: W, children: &[u8], back: &B) -> W
-    requires { B.IsAlwaysCallable back.now }
-    ensures { (f : ℕ → W.Weight) → ((q : ℕ) (v : _) → B.post back.now q v → W.Kind.stands v ≡ W.Kind.weights.inverse (f q)) → W.Kind.stands result ≡ W.Kind.weights.times (W.Kind.stands weight) (divided W.Kind.weights f children.now) }
+// A weight after `undo` at each child, which multiplies by the inverse of the factor there.
+fn undone_all<W: Kind, U: Fn(W, usize) -> W>(weight: W, children: &[u8], undo: &U) -> W
+    requires { U.IsAlwaysCallable undo.now }
+    ensures { (f : ℕ → W.Weight) → ((w : _) (q : ℕ) (v : _) → U.post undo.now w q v → W.Kind.stands v ≡ W.Kind.weights.times (W.Kind.stands w) (W.Kind.weights.inverse (f q))) → W.Kind.stands result ≡ W.Kind.weights.times (W.Kind.stands weight) (divided W.Kind.weights f children.now) }
 {
     let mut left = weight;
     for child in children {
-        left = undone(left, usize::from(*child), back);
+        left = undo(left, usize::from(*child));
     }
     left
 }
 
-// The weight of a rule after a push: times the factor of its target, and times what `back` gives at each child place, the inverse of the factor there.
-fn reweighed_by<W: Kind, F: Fn(usize) -> W, B: Fn(usize) -> W>(
+// The weight of a rule after a push: after `gain` at its target, which multiplies by the factor there, and `undo` at each child place.
+fn reweighed_by<W: Kind, G: Fn(W, usize) -> W, U: Fn(W, usize) -> W>(
     shape: &Shape,
     rule: &Rule<W>,
-    factor: &F,
-    back: &B,
+    gain: &G,
+    undo: &U,
 ) -> W
-    requires { F.IsAlwaysCallable factor.now × B.IsAlwaysCallable back.now }
-    ensures { (f : ℕ → W.Weight) → ((q : ℕ) (v : _) → F.post factor.now q v → W.Kind.stands v ≡ f q) → ((q : ℕ) (v : _) → B.post back.now q v → W.Kind.stands v ≡ W.Kind.weights.inverse (f q)) → W.Kind.stands result ≡ (reweighed W.Kind.weights f (transition W.Kind.stands (ranks_in shape.now) rule.now)).weight }
+    requires { G.IsAlwaysCallable gain.now × U.IsAlwaysCallable undo.now }
+    ensures { (f : ℕ → W.Weight) → ((w : _) (q : ℕ) (v : _) → G.post gain.now w q v → W.Kind.stands v ≡ W.Kind.weights.times (W.Kind.stands w) (f q)) → ((w : _) (q : ℕ) (v : _) → U.post undo.now w q v → W.Kind.stands v ≡ W.Kind.weights.times (W.Kind.stands w) (W.Kind.weights.inverse (f q))) → W.Kind.stands result ≡ (reweighed W.Kind.weights f (transition W.Kind.stands (ranks_in shape.now) rule.now)).weight }
 {
-    undone_all(gained(rule, factor), shape.children(&rule.left), back)
+    let weight = gain(rule.weight, usize::from(rule.target));
+    undone_all(weight, shape.children(&rule.left), undo)
 }
 
 // The weight of a rule after a push with a factor for each state: times the factor of its target, and times the inverse of the factor at each child place.
@@ -65,7 +69,9 @@ pub fn pushed_weight<W: Kind, F: Fn(usize) -> W>(shape: &Shape, rule: &Rule<W>, 
     requires { F.IsAlwaysCallable factor.now }
     ensures { (f : ℕ → W.Weight) → ((q : ℕ) (v : _) → F.post factor.now q v → W.Kind.stands v ≡ f q) → W.Kind.stands result ≡ (reweighed W.Kind.weights f (transition W.Kind.stands (ranks_in shape.now) rule.now)).weight }
 {
-    reweighed_by(shape, rule, factor, &|q: usize| inverse_of(factor, q))
+    let gain = |weight: W, q: usize| gained(weight, factor, q);
+    let undo = |weight: W, q: usize| undone(weight, factor, q);
+    reweighed_by(shape, rule, &gain, &undo)
 }
 
 // Pushes the state by the factor, whose inverse is `back`, in each of the first `count` rules of the memory.
@@ -80,14 +86,14 @@ fn push_rules<W: Kind>(
     ensures { W.Kind.stands back ≡ W.Kind.weights.inverse (W.Kind.stands factor) → accepts_in shape.now state ≡ false → Pushes W.Kind.weights W.Kind.stands shape.now count state (W.Kind.stands factor) memory.old memory.new }
 {
     let used = count.min(memory.len());
-    let factor_of = |q: usize|
-        ensures { W.Kind.stands result ≡ at_state W.Kind.weights state (W.Kind.stands factor) q }
-    { if q == state { factor } else { W::one() } };
-    let back_of = |q: usize|
-        ensures { W.Kind.stands result ≡ at_state W.Kind.weights state (W.Kind.stands back) q }
-    { if q == state { back } else { W::one() } };
+    let gain = |weight: W, q: usize|
+        ensures { W.Kind.stands result ≡ W.Kind.weights.times (W.Kind.stands weight) (at_state W.Kind.weights state (W.Kind.stands factor) q) }
+    { times_at(weight, factor, q, state) };
+    let undo = |weight: W, q: usize|
+        ensures { W.Kind.stands result ≡ W.Kind.weights.times (W.Kind.stands weight) (at_state W.Kind.weights state (W.Kind.stands back) q) }
+    { times_at(weight, back, q, state) };
     for rule in &mut memory[..used] {
-        rule.weight = reweighed_by(shape, rule, &factor_of, &back_of);
+        rule.weight = reweighed_by(shape, rule, &gain, &undo);
     }
 }
 

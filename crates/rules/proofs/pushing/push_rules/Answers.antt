@@ -1,4 +1,4 @@
-use Rattle.std.proofs.Common.{get_or, take, ap, arith}
+use Rattle.std.proofs.Common.{get_or, take, refl, ap, ◌∙◌, arith}
 use Rattle.rules.specs.Pushing.{at_state}
 use Rattle.rules.specs.Shapes.{ranks_in}
 use Rattle.rules.proofs.Pushes.{state_undo, pushed_none, pushed_more, pushed_front, pushes}
@@ -17,7 +17,7 @@ loop-rule-preserved g c inverted =
     let i = c.loop-rule.rule-index in
     let rule = get_or items i c.rule-item.result in
     pushed_more K g.W.Kind.stands (ranks_in c.args.shape.now) c.args.state factor (take c.min-used.result c.args.memory.now) items i rule c.reweighed_by-rule.result c.loop-rule-test.true (c.loop-rule.invariant inverted) (ap (get_or items i) c.rule-item.is)
-    (c.reweighed_by-rule.ensures f (λ q v p. p) (λ q v. state_undo K c.args.state factor (g.W.Kind.stands c.args.back) (g.W.Kind.stands v) q inverted))
+    (c.reweighed_by-rule.ensures f (λ w q v p. p) (λ w q v p. p ∙ ap (K.times (g.W.Kind.stands w)) (state_undo K c.args.state factor (g.W.Kind.stands c.args.back) (at_state K c.args.state (g.W.Kind.stands c.args.back) q) q inverted refl)))
 
 pub returns : goal.returns
 returns g c inverted =
