@@ -1,5 +1,5 @@
 // The table of a purchase order, built through the calls of a draft, and what it says of two readings.
-ghost use Rattle.std.specs.Prelude.{◌≡◌, IfOk, MatchResult, OnOk};
+ghost use Rattle.std.specs.Prelude.{◌≡◌, map, length, take, IfOk, MatchResult, OnOk};
 ghost use Rattle.kinds.specs.Costs.{costs};
 ghost use Rattle.trees.specs.Lists.{tree_of};
 ghost use Rattle.rules.specs.Weighing.{Says};
@@ -7,13 +7,13 @@ ghost use Rattle.rules.specs.Books.{Opens, added};
 ghost use Rattle.rules.specs.Measures.{ranks as measure_ranks};
 ghost use Rattle.tables.specs.Images.{draft_holds, closed_holds, SameDraft, SameClosed};
 ghost use Rattle.orders.specs.Symbols.{order_ranks};
-ghost use Rattle.orders.specs.Tables.{line_rule, lines_added, order_table, Judges};
+ghost use Rattle.orders.specs.Tables.{state_number, line_rule, lines_added, order_table, Judges};
 
 use crate::choice::Which;
 use crate::fault::{Fault, Unweighed};
 use crate::line::Line;
 use crate::reading::Reading;
-use crate::state::{State, numbers};
+use crate::state::State;
 use crate::symbol::ranks;
 use kinds::Cost;
 use rules::{Measure, Place, Rule, Weighing};
@@ -36,11 +36,22 @@ pub struct Verdict<'a> {
     pub refusal: Refusal,
 }
 
+// The numbers of a line's children, in the first places.
+fn numbers(line: &Line) -> [usize; 4]
+    ensures { take (length line.now.children.now) result ≡ map state_number line.now.children.now }
+{
+    let mut places = [0; 4];
+    for (k, state) in line.children.iter().enumerate() {
+        places[k] = usize::from(*state);
+    }
+    places
+}
+
 // Adds the rule of a line.
 fn add_line(draft: &mut Draft<'_, Cost>, line: &Line) -> Result<(), Refusal>
     ensures { MatchResult result (λ _. draft_holds (λ v. v) draft.new ≡ added (draft_holds (λ v. v) draft.old) (line_rule line.now)) (λ _. SameDraft draft.old draft.new) }
 {
-    let children = numbers(line.children);
+    let children = numbers(line);
     draft.add(
         line.symbol.into(),
         &children[..line.children.len()],
