@@ -25,6 +25,10 @@ pub fn hash(symbol: usize, children: &[usize]) -> usize
 pub fn rule_hash(shape: &Shape, left: &LeftSide) -> usize
     ensures { result ≡ left_hash (ranks_in shape.now) left.now }
 {
-    let symbol = usize::from(left.symbol);
-    hash(symbol, &left.states()[..shape.rank(symbol)])
+    shape
+        .children(left)
+        .iter()
+        .fold(mix(0, usize::from(left.symbol)), |hash, state| {
+            mix(hash, usize::from(*state))
+        })
 }
